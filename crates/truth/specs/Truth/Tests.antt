@@ -1,11 +1,12 @@
 -- Laws of tests and searches.
-use Prim.Native.Nat.{ℕ, zero, suc, _≤_, _<_}
+use Prim.Native.Nat.{ℕ, zero, suc, _+_, _≤_, _<_}
 use mathlib.Core.Bool.{Bool, true, false, cond, not, _&&_, _||_}
 use mathlib.Core.Path.{_≡_, refl, subst}
 use mathlib.Core.Logic.{dite, _⊎_, inl, inr, ⊎-elim}
 use native.Mathlib.Omega.{arith}
 use native.Mathlib.Decide.{decLt}
 use lib.Dec.{leb, ltb, eqb}
+use borrow.Author.Count.{below-more}
 use borrow.Author.Tests.{leb-true, leb-false, ltb-true, ltb-false, eqb-true, eqb-false}
 use Rattle.truth.specs.Truth.{Says, holds, fails, All, First, first}
 use Rattle.truth.specs.Truth.Bools.{clash}
@@ -55,6 +56,10 @@ or? (holds p) s = holds (inl p)
 or? (fails p) (holds q) = holds (inr q)
 or? (fails p) (fails q) = fails (⊎-elim p q)
 
+pub not? : {P : Type 0} {b : Bool} → Says P b → Says (P → ⊥) (not b)
+not? (holds p) = fails (λ d. d p)
+not? (fails d) = holds d
+
 -- P where E holds, and Q where it does not
 pub if? : {E P Q : Type 0} {e a b : Bool} → Says E e → Says P a → Says Q b → Says ((E → P) × ((E → ⊥) → Q)) (cond e a b)
 if? (holds e) s t = says-same s (λ p. ((λ _. p), λ d. absurd (d e))) (λ x. x .0 e)
@@ -70,6 +75,10 @@ first-some f h a = f .broken h (a _ h)
 
 pub all-first : {P : ℕ → Type 0} {n r : ℕ} → First P n r → All P n → n ≤ r
 all-first {P} {n} {r} f a = dite (decLt r n) (λ h. absurd (f .broken h (a r h))) (λ h. omega arith)
+
+-- where P fails somewhere, the search stops before the end
+pub first-found : {P : ℕ → Type 0} {n r i : ℕ} → First P n r → i < n → (P i → ⊥) → r < n
+first-found {P} {n} {r} {i} f h d = dite (decLt r n) (λ l. l) (λ l. absurd (d (f .before i (omega (arith, f .within)))))
 
 pub first-one : {P : ℕ → Type 0} {n r s : ℕ} → First P n r → First P n s → r ≡ s
 first-one {P} {n} {r} {s} f g =
@@ -93,3 +102,21 @@ first? {P} f s (suc n) = step (first f n) (first? f s n) (ltb (first f n) n) (lt
       before = λ i k. f .before i (omega (arith, f .within));
       broken = λ _. x;
     }
+
+-- ---- a search on its way: it has come to i, and P held at every number before
+
+pub record Passed (P : ℕ → Type 0) (n i : ℕ) : Type 0 where
+  pub within : i ≤ n
+  pub before : All P i
+
+pub passed-none : {P : ℕ → Type 0} {n : ℕ} → Passed P n 0
+passed-none = record { within = omega arith; before = λ i h. absurd (omega arith) }
+
+pub passed-more : {P : ℕ → Type 0} {n i : ℕ} → Passed P n i → i < n → P i → Passed P n (i + 1)
+passed-more {P} {n} {i} s h p = record { within = omega arith; before = below-more P i (s .before) p }
+
+pub passed-stop : {P : ℕ → Type 0} {n i : ℕ} → Passed P n i → (P i → ⊥) → First P n i
+passed-stop s d = record { within = s .within; before = s .before; broken = λ _. d }
+
+pub passed-end : {P : ℕ → Type 0} {n i : ℕ} → Passed P n i → n ≤ i → First P n i
+passed-end s h = record { within = s .within; before = s .before; broken = λ l. absurd (omega arith) }

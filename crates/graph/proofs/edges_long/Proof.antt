@@ -1,0 +1,17 @@
+use Rattle.truth.specs.Truth.Tests.{says-same, eq?}
+use Rattle.truth.specs.Truth.{fails}
+use native.Mathlib.Omega.{arith}
+use Rattle.graph.proofs.edges_long.Statement.{statement}
+use Rattle.graph.proofs.edges_long.Tie as tie
+
+returns : tie.Need-returns
+returns c = fails (λ p. omega arith)
+
+returns-2 : tie.Need-returns-2
+returns-2 c = fails (λ p. omega arith)
+
+returns-3 : tie.Need-returns-3
+returns-3 c = says-same (eq? _ _) (λ e. record { froms-long = omega arith; tos-long = omega arith; ways-long = e }) (λ p. p .ways-long)
+
+pub edges-long-spec : {M : Type 1} → statement M
+edges-long-spec = tie.close (tie.spec returns returns-2 returns-3)

@@ -1,0 +1,23 @@
+use Rattle.truth.specs.Truth.Tests.{says-same, eq?}
+use Rattle.truth.specs.Truth.{fails}
+use native.Mathlib.Omega.{arith}
+use Rattle.graph.proofs.nodes_long.Statement.{statement}
+use Rattle.graph.proofs.nodes_long.Tie as tie
+
+returns : tie.Need-returns
+returns c = fails (λ p. omega arith)
+
+returns-2 : tie.Need-returns-2
+returns-2 c = fails (λ p. omega arith)
+
+returns-3 : tie.Need-returns-3
+returns-3 c = fails (λ p. omega arith)
+
+returns-4 : tie.Need-returns-4
+returns-4 c = fails (λ p. omega arith)
+
+returns-5 : tie.Need-returns-5
+returns-5 c = says-same (eq? _ _) (λ e. record { kinds-long = omega arith; checks-long = omega arith; privileged-long = omega arith; entries-long = omega arith; grants-long = e }) (λ p. p .grants-long)
+
+pub nodes-long-spec : {M : Type 1} → statement M
+nodes-long-spec = tie.close (tie.spec returns returns-2 returns-3 returns-4 returns-5)

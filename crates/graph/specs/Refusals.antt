@@ -1,0 +1,54 @@
+-- The refusals of document 01: the number and the place that go with each.
+use Prim.Native.Nat.{ℕ, _-_}
+use mathlib.Core.Path.{_≡_, refl, sym, ap₂, _∙_}
+use mathlib.Core.List.{List, [], _∷_}
+use lib.ListN.{getD}
+use Rattle.graph.specs.declared.Refusal.{Refusal}
+use Rattle.graph.specs.declared.Refusal.the-variants.{Shape, Node, Edge, NoEntry, Asked, Stack, NotACheck, NoRule, Denied, NoRoom, Row, TooLong}
+
+-- A refusal's number, and its place: 0 where none is named.
+pub record Numbered : Type 0 where
+  pub number : ℕ
+  pub place : ℕ
+
+abbrev pub _at_ : (number place : ℕ) → Numbered
+number at place = record { number = number; place = place }
+
+infix 30 _at_
+abbrev pub numbered : Refusal → Numbered
+numbered Shape = 1 at 0
+numbered (Node i) = 2 at i
+numbered (Edge e) = 3 at e
+numbered NoEntry = 4 at 0
+numbered Asked = 5 at 0
+numbered Stack = 6 at 0
+numbered NotACheck = 7 at 0
+numbered NoRule = 8 at 0
+numbered Denied = 9 at 0
+numbered NoRoom = 10 at 0
+numbered (Row i) = 11 at i
+numbered TooLong = 12 at 0
+
+-- The refusal with that number and place.
+abbrev pub refusal : Numbered → Refusal
+refusal r =
+    getD (Shape ∷ Node (r .place) ∷ Edge (r .place) ∷ NoEntry ∷ Asked ∷ Stack ∷ NotACheck ∷ NoRule ∷ Denied ∷ NoRoom ∷ Row (r .place) ∷ TooLong ∷ [])
+    (r .number - 1) Shape
+
+pub refusal-numbered : (r : Refusal) → refusal (numbered r) ≡ r
+refusal-numbered Shape = refl
+refusal-numbered (Node i) = refl
+refusal-numbered (Edge e) = refl
+refusal-numbered NoEntry = refl
+refusal-numbered Asked = refl
+refusal-numbered Stack = refl
+refusal-numbered NotACheck = refl
+refusal-numbered NoRule = refl
+refusal-numbered Denied = refl
+refusal-numbered NoRoom = refl
+refusal-numbered (Row i) = refl
+refusal-numbered TooLong = refl
+
+-- No two refusals have one number and place.
+pub numbered-one : (r s : Refusal) → numbered r ≡ numbered s → r ≡ s
+numbered-one r s e = sym (refusal-numbered r) ∙ (λ i. refusal (e i)) ∙ refusal-numbered s

@@ -1,0 +1,275 @@
+// The graph: what a caller lends, and whether it is one.
+use sets::Set;
+ghost use mathlib.Core.Path.{_≡_};
+ghost use Prim.Native.Nat.{_<_};
+ghost use lib.ListN.{length};
+ghost use Rattle.truth.specs.Truth.{Says, First};
+ghost use Rattle.graph.specs.Graph.{graphOf, NodeRule, EndsRule, NodeAt, EdgeAt, NoEntry, Ranges, NodesLong, EdgesLong, Shape};
+ghost use Rattle.graph.specs.Judge.{Judges};
+
+// Why a call is refused, each with the place that it names. `Refusals` of specs/ gives the number that goes with each.
+pub enum Refusal {
+    Shape,
+    Node(usize),
+    Edge(usize),
+    NoEntry,
+    Asked,
+    Stack,
+    NotACheck,
+    NoRule,
+    Denied,
+    NoRoom,
+    Row(usize),
+    TooLong,
+}
+
+pub enum Judged {
+    Accepted,
+    Refused(Refusal),
+}
+
+fn check_obeys(k: usize, kind: u8, check: u16) -> bool
+    ensures { λ r. ⌜ Says ((kind ≡ 2 → check < k) × ((kind ≡ 2 → ⊥) → check ≡ 0)) r ⌝ }
+{
+    if kind == 2 {
+        return (check as usize) < k;
+    }
+    check == 0
+}
+
+fn node_obeys(k: usize, kind: u8, check: u16, privileged: u8, entry: u8, grants: u64) -> bool
+    ensures { λ r. ⌜ Says (NodeRule k kind check privileged entry grants) r ⌝ }
+{
+    if 2 < kind {
+        return false;
+    }
+    if 1 < privileged {
+        return false;
+    }
+    if 1 < entry {
+        return false;
+    }
+    if !check_obeys(k, kind, check) {
+        return false;
+    }
+    Set { bits: grants }.within(Set::all(k))
+}
+
+// The first node that breaks its rule, or n.
+fn first_bad_node(
+    k: usize,
+    n: usize,
+    kinds: &[u8],
+    checks: &[u16],
+    privileged: &[u8],
+    entries: &[u8],
+    grants: &[u64],
+) -> usize
+    requires { ⌜ NodesLong n (now kinds) (now checks) (now privileged) (now entries) (now grants) ⌝ }
+    ensures { λ r. ⌜ First (NodeAt k (now (kinds .entry)) (now (checks .entry)) (now (privileged .entry)) (now (entries .entry)) (now (grants .entry))) n r ⌝ }
+{
+    let mut i = 0;
+    while i < n {
+        if !node_obeys(k, kinds[i], checks[i], privileged[i], entries[i], grants[i]) {
+            return i;
+        }
+        i += 1;
+    }
+    i
+}
+
+fn ends_obey(way: u8, leaves: u8, out: u64, into: u64) -> bool
+    ensures { λ r. ⌜ Says (EndsRule way leaves out into) r ⌝ }
+{
+    if way == 0 {
+        return leaves == 0;
+    }
+    if way != 1 {
+        return false;
+    }
+    if leaves == 0 {
+        return out == into;
+    }
+    if leaves == 2 {
+        return out == into;
+    }
+    false
+}
+
+fn edge_obeys(
+    n: usize,
+    kinds: &[u8],
+    grants: &[u64],
+    froms: &[u16],
+    tos: &[u16],
+    ways: &[u8],
+    e: usize,
+) -> bool
+    requires { ⌜ (length (now kinds) ≡ n) × (length (now grants) ≡ n) ⌝ }
+    requires { ⌜ EdgesLong (length (now froms)) (now froms) (now tos) (now ways) ⌝ }
+    requires { ⌜ e < length (now froms) ⌝ }
+    ensures { λ r. ⌜ Says (EdgeAt n (now (kinds .entry)) (now (grants .entry)) (now (froms .entry)) (now (tos .entry)) (now (ways .entry)) e) r ⌝ }
+{
+    let from = froms[e] as usize;
+    let to = tos[e] as usize;
+    if n <= from {
+        return false;
+    }
+    if n <= to {
+        return false;
+    }
+    ends_obey(ways[e], kinds[from], grants[from], grants[to])
+}
+
+// The first edge that breaks its rule, or m.
+fn first_bad_edge(
+    n: usize,
+    m: usize,
+    kinds: &[u8],
+    grants: &[u64],
+    froms: &[u16],
+    tos: &[u16],
+    ways: &[u8],
+) -> usize
+    requires { ⌜ (length (now kinds) ≡ n) × (length (now grants) ≡ n) ⌝ }
+    requires { ⌜ EdgesLong m (now froms) (now tos) (now ways) ⌝ }
+    ensures { λ r. ⌜ First (EdgeAt n (now (kinds .entry)) (now (grants .entry)) (now (froms .entry)) (now (tos .entry)) (now (ways .entry))) m r ⌝ }
+{
+    let mut e = 0;
+    while e < m {
+        if !edge_obeys(n, kinds, grants, froms, tos, ways, e) {
+            return e;
+        }
+        e += 1;
+    }
+    e
+}
+
+// The first entry node, or n.
+fn first_entry(n: usize, entries: &[u8]) -> usize
+    requires { ⌜ length (now entries) ≡ n ⌝ }
+    ensures { λ r. ⌜ First (NoEntry (now (entries .entry))) n r ⌝ }
+{
+    let mut i = 0;
+    while i < n {
+        if entries[i] == 1 {
+            return i;
+        }
+        i += 1;
+    }
+    i
+}
+
+fn in_range(k: usize, n: usize, m: usize) -> bool
+    ensures { λ r. ⌜ Says (Ranges k n m) r ⌝ }
+{
+    if k < 1 {
+        return false;
+    }
+    if Set::LIMIT < k {
+        return false;
+    }
+    if n < 1 {
+        return false;
+    }
+    if 1024 < n {
+        return false;
+    }
+    m <= 4096
+}
+
+fn nodes_long(
+    n: usize,
+    kinds: &[u8],
+    checks: &[u16],
+    privileged: &[u8],
+    entries: &[u8],
+    grants: &[u64],
+) -> bool
+    ensures { λ r. ⌜ Says (NodesLong n (now (kinds .entry)) (now (checks .entry)) (now (privileged .entry)) (now (entries .entry)) (now (grants .entry))) r ⌝ }
+{
+    if kinds.len() != n {
+        return false;
+    }
+    if checks.len() != n {
+        return false;
+    }
+    if privileged.len() != n {
+        return false;
+    }
+    if entries.len() != n {
+        return false;
+    }
+    grants.len() == n
+}
+
+fn edges_long(m: usize, froms: &[u16], tos: &[u16], ways: &[u8]) -> bool
+    ensures { λ r. ⌜ Says (EdgesLong m (now (froms .entry)) (now (tos .entry)) (now (ways .entry))) r ⌝ }
+{
+    if froms.len() != m {
+        return false;
+    }
+    if tos.len() != m {
+        return false;
+    }
+    ways.len() == m
+}
+
+fn has_shape(
+    k: usize,
+    n: usize,
+    m: usize,
+    kinds: &[u8],
+    checks: &[u16],
+    privileged: &[u8],
+    entries: &[u8],
+    grants: &[u64],
+    froms: &[u16],
+    tos: &[u16],
+    ways: &[u8],
+) -> bool
+    ensures { λ r. ⌜ Says (Shape (graphOf k n m (now (kinds .entry)) (now (checks .entry)) (now (privileged .entry)) (now (entries .entry)) (now (grants .entry)) (now (froms .entry)) (now (tos .entry)) (now (ways .entry)))) r ⌝ }
+{
+    if !in_range(k, n, m) {
+        return false;
+    }
+    if !nodes_long(n, kinds, checks, privileged, entries, grants) {
+        return false;
+    }
+    edges_long(m, froms, tos, ways)
+}
+
+// Whether the lent slices are a graph, or the lowest refusal that applies.
+pub fn check(
+    k: usize,
+    n: usize,
+    m: usize,
+    kinds: &[u8],
+    checks: &[u16],
+    privileged: &[u8],
+    entries: &[u8],
+    grants: &[u64],
+    froms: &[u16],
+    tos: &[u16],
+    ways: &[u8],
+) -> Judged
+    ensures { λ r. ⌜ Judges (graphOf k n m (now (kinds .entry)) (now (checks .entry)) (now (privileged .entry)) (now (entries .entry)) (now (grants .entry)) (now (froms .entry)) (now (tos .entry)) (now (ways .entry))) r ⌝ }
+{
+    if !has_shape(
+        k, n, m, kinds, checks, privileged, entries, grants, froms, tos, ways,
+    ) {
+        return Judged::Refused(Refusal::Shape);
+    }
+    let i = first_bad_node(k, n, kinds, checks, privileged, entries, grants);
+    if i < n {
+        return Judged::Refused(Refusal::Node(i));
+    }
+    let e = first_bad_edge(n, m, kinds, grants, froms, tos, ways);
+    if e < m {
+        return Judged::Refused(Refusal::Edge(e));
+    }
+    if first_entry(n, entries) < n {
+        return Judged::Accepted;
+    }
+    Judged::Refused(Refusal::NoEntry)
+}

@@ -3,6 +3,12 @@
 pub mod Rules
 pub mod Arrivals
 pub mod Edges
+pub mod Solutions
+pub mod Growth
+pub mod Rounds
+pub mod Results
+pub mod Tables
+pub mod Gateway
 use Prim.Native.Nat.{ℕ, _≤_, _<_}
 use mathlib.Core.Path.{_≡_}
 use mathlib.Core.Logic.{_⊎_}

@@ -256,7 +256,17 @@ pub fn check(
     ensures { λ r. ⌜ Judges (graphOf k n m (now (kinds .entry)) (now (checks .entry)) (now (privileged .entry)) (now (entries .entry)) (now (grants .entry)) (now (froms .entry)) (now (tos .entry)) (now (ways .entry))) r ⌝ }
 {
     if !has_shape(
-        k, n, m, kinds, checks, privileged, entries, grants, froms, tos, ways,
+        k,
+        n,
+        m,
+        kinds,
+        checks,
+        privileged,
+        entries,
+        grants,
+        froms,
+        tos,
+        ways,
     ) {
         return Judged::Refused(Refusal::Shape);
     }

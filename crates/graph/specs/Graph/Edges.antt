@@ -62,9 +62,9 @@ module _ (g : Graph) (w x : Outs) (n p : ℕ) where
       held-by-all = λ d a q. given (arriving g w n a (check g n)) (arriving g x n a p) (arrives-every g n all-hold (not-own d (either (eqb p (check g n)) (everyArrival g n all-hold) (right (someArrival g n some-passes) others t))) a q);
     }),
     λ r.
-    both (some-arrives g n some-passes (r .passing .0) (r .passing .1) (r .passing .2))
-    (by-split (eqb p (check g n)) (or-left (everyArrival g n all-hold))
-    (λ d. or-right (eqb p (check g n)) (every-arrives g n all-hold (λ a q. when _ _ (r .held-by-all (eqb-false p (check g n) d) a q))))),
+        both (some-arrives g n some-passes (r .passing .0) (r .passing .1) (r .passing .2))
+        (by-split (eqb p (check g n)) (or-left (everyArrival g n all-hold))
+        (λ d. or-right (eqb p (check g n)) (every-arrives g n all-hold (λ a q. when _ _ (r .held-by-all (eqb-false p (check g n) d) a q))))),
   )
     where
       some-passes : Arrival → Bool
@@ -101,8 +101,8 @@ module _ (g : Graph) (w : Outs) (y : System) (x : Outs) (e p : ℕ) where
   unfolding outSet transSet
   transfer-privileged c k v = (
     (λ t.
-    let u : grants g (from g e) (check g (from g e)) && inSet g y x (from g e) p ≡ true = rw (c, k, v) at t in
-    (left _ _ u, right (grants g (from g e) (check g (from g e))) _ u)),
+        let u : grants g (from g e) (check g (from g e)) && inSet g y x (from g e) p ≡ true = rw (c, k, v) at t in
+        (left _ _ u, right (grants g (from g e) (check g (from g e))) _ u)),
     λ r. rw (c, k, v) (both (r .0) (r .1)),
   )
 

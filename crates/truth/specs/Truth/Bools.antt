@@ -27,9 +27,10 @@ pub turned : (a b : Bool) → (a ≡ true → b ≡ true) → b ≡ false → a 
 turned true b h f = clash (h refl) f
 turned false b h f = refl
 
-pub turned-back : (a b : Bool) → (b ≡ false → a ≡ false) → a ≡ true → b ≡ true
-turned-back a true h t = refl
-turned-back a false h t = clash t (h refl)
+pub unturned : (a b : Bool) → (not a ≡ true → not b ≡ true) → b ≡ true → a ≡ true
+unturned true b h t = refl
+unturned false true h t = h refl
+unturned false false h t = t
 
 pub both : {a b : Bool} → a ≡ true → b ≡ true → a && b ≡ true
 both {a = true} p q = q

@@ -9,6 +9,7 @@ pub mod Rounds
 pub mod Results
 pub mod Tables
 pub mod Gateway
+pub mod LooksRight
 use Prim.Native.Nat.{ℕ, _≤_, _<_}
 use mathlib.Core.Path.{_≡_}
 use mathlib.Core.Logic.{_⊎_}

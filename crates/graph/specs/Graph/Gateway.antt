@@ -33,15 +33,7 @@ gatewaySlices = record {
 
 computed : Computed gateway gatewaySlices 3 3
 unfolding judge shapeTest nodeTest edgeTest noEntry first rounds written sheet pack some every someArrival everyArrival kind isCheck check privileged entry grants from to way isCall arriving inSet callSet pastSet transSet outSet deniedSet grantedSet
-computed = record {
-  accepted = refl;
-  may-sets = simp has-code;
-  may-rest = simp has-code;
-  sure-sets = simp has-code;
-  sure-rest = simp has-code;
-  denied-sets = simp has-code;
-  granted-sets = simp has-code;
-}
+computed = record { accepted = refl; sets = simp has-code }
 
 pub gateway-accepted : Acceptable gateway
 gateway-accepted = computed-accepted gateway gatewaySlices 3 3 computed

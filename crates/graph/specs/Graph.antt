@@ -132,23 +132,28 @@ pub record Ranges (k n m : ℕ) : Type 0 where
   pub n-high : n ≤ 1024
   pub m-high : m ≤ 4096
 
--- Every slice as long as it has to be: N entries for a node's, M for an edge's.
-pub record NodesLong (n : ℕ) (kinds checks privileged entries grants : List ℕ) : Type 0 where
-  pub kinds-long : length kinds ≡ n
-  pub checks-long : length checks ≡ n
-  pub privileged-long : length privileged ≡ n
-  pub entries-long : length entries ≡ n
-  pub grants-long : length grants ≡ n
+-- Every slice as long as it has to be, by their lengths: N entries for a node's, M for an edge's.
+pub record NodesLong (n kinds checks privileged entries grants : ℕ) : Type 0 where
+  pub kinds-long : kinds ≡ n
+  pub checks-long : checks ≡ n
+  pub privileged-long : privileged ≡ n
+  pub entries-long : entries ≡ n
+  pub grants-long : grants ≡ n
 
-pub record EdgesLong (m : ℕ) (froms tos ways : List ℕ) : Type 0 where
-  pub froms-long : length froms ≡ m
-  pub tos-long : length tos ≡ m
-  pub ways-long : length ways ≡ m
+pub record EdgesLong (m froms tos ways : ℕ) : Type 0 where
+  pub froms-long : froms ≡ m
+  pub tos-long : tos ≡ m
+  pub ways-long : ways ≡ m
 
-pub record Shape (g : Graph) : Type 0 where
-  pub ranges : Ranges (g .k) (g .n) (g .m)
-  pub nodes : NodesLong (g .n) (g .kinds) (g .checks) (g .privileged) (g .entries) (g .grants)
-  pub edges : EdgesLong (g .m) (g .froms) (g .tos) (g .ways)
+pub record ShapeRule (k n m kinds checks privileged entries grants froms tos ways : ℕ) : Type 0 where
+  pub ranges : Ranges k n m
+  pub nodes : NodesLong n kinds checks privileged entries grants
+  pub edges : EdgesLong m froms tos ways
+
+abbrev pub Shape : Graph → Type 0
+Shape g =
+    ShapeRule (g .k) (g .n) (g .m) (length (g .kinds)) (length (g .checks)) (length (g .privileged)) (length (g .entries)) (length (g .grants))
+    (length (g .froms)) (length (g .tos)) (length (g .ways))
 
 -- Node i is no entry.
 abbrev pub NoEntry : List ℕ → ℕ → Type 0

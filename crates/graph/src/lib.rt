@@ -4,7 +4,8 @@ ghost use mathlib.Core.Path.{_≡_};
 ghost use Prim.Native.Nat.{_<_};
 ghost use lib.ListN.{length};
 ghost use Rattle.truth.specs.Truth.{Says, First};
-ghost use Rattle.graph.specs.Graph.{graphOf, NodeRule, EndsRule, NodeAt, EdgeAt, NoEntry, Ranges, NodesLong, EdgesLong, Shape};
+ghost use Rattle.graph.specs.Graph.{graphOf, NodeRule, EndsRule, NodeAt, EdgeAt, NoEntry, Ranges, NodesLong, EdgesLong, ShapeRule};
+ghost use Rattle.graph.specs.Refusals.{numbered};
 ghost use Rattle.graph.specs.Judge.{Judges};
 
 // Why a call is refused, each with the place that it names. `Refusals` of specs/ gives the number that goes with each.
@@ -21,6 +22,47 @@ pub enum Refusal {
     NoRoom,
     Row(usize),
     TooLong,
+}
+
+impl Refusal {
+    pub fn number(self) -> usize
+        ensures { λ r. ⌜ r ≡ numbered self .number ⌝ }
+    {
+        match self {
+            Refusal::Shape => 1,
+            Refusal::Node(_) => 2,
+            Refusal::Edge(_) => 3,
+            Refusal::NoEntry => 4,
+            Refusal::Asked => 5,
+            Refusal::Stack => 6,
+            Refusal::NotACheck => 7,
+            Refusal::NoRule => 8,
+            Refusal::Denied => 9,
+            Refusal::NoRoom => 10,
+            Refusal::Row(_) => 11,
+            Refusal::TooLong => 12,
+        }
+    }
+
+    // Where it is, or 0 where the refusal names no place.
+    pub fn place(self) -> usize
+        ensures { λ r. ⌜ r ≡ numbered self .place ⌝ }
+    {
+        match self {
+            Refusal::Shape => 0,
+            Refusal::Node(i) => i,
+            Refusal::Edge(e) => e,
+            Refusal::NoEntry => 0,
+            Refusal::Asked => 0,
+            Refusal::Stack => 0,
+            Refusal::NotACheck => 0,
+            Refusal::NoRule => 0,
+            Refusal::Denied => 0,
+            Refusal::NoRoom => 0,
+            Refusal::Row(i) => i,
+            Refusal::TooLong => 0,
+        }
+    }
 }
 
 pub enum Judged {
@@ -65,7 +107,7 @@ fn first_bad_node(
     entries: &[u8],
     grants: &[u64],
 ) -> usize
-    requires { ⌜ NodesLong n (now kinds) (now checks) (now privileged) (now entries) (now grants) ⌝ }
+    requires { ⌜ NodesLong n (length (now kinds)) (length (now checks)) (length (now privileged)) (length (now entries)) (length (now grants)) ⌝ }
     ensures { λ r. ⌜ First (NodeAt k (now (kinds .entry)) (now (checks .entry)) (now (privileged .entry)) (now (entries .entry)) (now (grants .entry))) n r ⌝ }
 {
     let mut i = 0;
@@ -106,7 +148,7 @@ fn edge_obeys(
     e: usize,
 ) -> bool
     requires { ⌜ (length (now kinds) ≡ n) × (length (now grants) ≡ n) ⌝ }
-    requires { ⌜ EdgesLong (length (now froms)) (now froms) (now tos) (now ways) ⌝ }
+    requires { ⌜ EdgesLong (length (now froms)) (length (now froms)) (length (now tos)) (length (now ways)) ⌝ }
     requires { ⌜ e < length (now froms) ⌝ }
     ensures { λ r. ⌜ Says (EdgeAt n (now (kinds .entry)) (now (grants .entry)) (now (froms .entry)) (now (tos .entry)) (now (ways .entry)) e) r ⌝ }
 {
@@ -132,7 +174,7 @@ fn first_bad_edge(
     ways: &[u8],
 ) -> usize
     requires { ⌜ (length (now kinds) ≡ n) × (length (now grants) ≡ n) ⌝ }
-    requires { ⌜ EdgesLong m (now froms) (now tos) (now ways) ⌝ }
+    requires { ⌜ EdgesLong m (length (now froms)) (length (now tos)) (length (now ways)) ⌝ }
     ensures { λ r. ⌜ First (EdgeAt n (now (kinds .entry)) (now (grants .entry)) (now (froms .entry)) (now (tos .entry)) (now (ways .entry))) m r ⌝ }
 {
     let mut e = 0;
@@ -178,57 +220,59 @@ fn in_range(k: usize, n: usize, m: usize) -> bool
     m <= 4096
 }
 
+// By the lengths of a node's slices.
 fn nodes_long(
     n: usize,
-    kinds: &[u8],
-    checks: &[u16],
-    privileged: &[u8],
-    entries: &[u8],
-    grants: &[u64],
+    kinds: usize,
+    checks: usize,
+    privileged: usize,
+    entries: usize,
+    grants: usize,
 ) -> bool
-    ensures { λ r. ⌜ Says (NodesLong n (now (kinds .entry)) (now (checks .entry)) (now (privileged .entry)) (now (entries .entry)) (now (grants .entry))) r ⌝ }
+    ensures { λ r. ⌜ Says (NodesLong n kinds checks privileged entries grants) r ⌝ }
 {
-    if kinds.len() != n {
+    if kinds != n {
         return false;
     }
-    if checks.len() != n {
+    if checks != n {
         return false;
     }
-    if privileged.len() != n {
+    if privileged != n {
         return false;
     }
-    if entries.len() != n {
+    if entries != n {
         return false;
     }
-    grants.len() == n
+    grants == n
 }
 
-fn edges_long(m: usize, froms: &[u16], tos: &[u16], ways: &[u8]) -> bool
-    ensures { λ r. ⌜ Says (EdgesLong m (now (froms .entry)) (now (tos .entry)) (now (ways .entry))) r ⌝ }
+// By the lengths of an edge's slices.
+fn edges_long(m: usize, froms: usize, tos: usize, ways: usize) -> bool
+    ensures { λ r. ⌜ Says (EdgesLong m froms tos ways) r ⌝ }
 {
-    if froms.len() != m {
+    if froms != m {
         return false;
     }
-    if tos.len() != m {
+    if tos != m {
         return false;
     }
-    ways.len() == m
+    ways == m
 }
 
 fn has_shape(
     k: usize,
     n: usize,
     m: usize,
-    kinds: &[u8],
-    checks: &[u16],
-    privileged: &[u8],
-    entries: &[u8],
-    grants: &[u64],
-    froms: &[u16],
-    tos: &[u16],
-    ways: &[u8],
+    kinds: usize,
+    checks: usize,
+    privileged: usize,
+    entries: usize,
+    grants: usize,
+    froms: usize,
+    tos: usize,
+    ways: usize,
 ) -> bool
-    ensures { λ r. ⌜ Says (Shape (graphOf k n m (now (kinds .entry)) (now (checks .entry)) (now (privileged .entry)) (now (entries .entry)) (now (grants .entry)) (now (froms .entry)) (now (tos .entry)) (now (ways .entry)))) r ⌝ }
+    ensures { λ r. ⌜ Says (ShapeRule k n m kinds checks privileged entries grants froms tos ways) r ⌝ }
 {
     if !in_range(k, n, m) {
         return false;
@@ -259,14 +303,14 @@ pub fn check(
         k,
         n,
         m,
-        kinds,
-        checks,
-        privileged,
-        entries,
-        grants,
-        froms,
-        tos,
-        ways,
+        kinds.len(),
+        checks.len(),
+        privileged.len(),
+        entries.len(),
+        grants.len(),
+        froms.len(),
+        tos.len(),
+        ways.len(),
     ) {
         return Judged::Refused(Refusal::Shape);
     }

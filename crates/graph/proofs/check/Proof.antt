@@ -22,16 +22,16 @@ first-bad-edge-requires : tie.Need-first-bad-edge-requires
 first-bad-edge-requires c κs = let s = says-true (c .before .before .before .has-shape .ensures) (not-false _ (c .before .before .if1 .left)) in search needs
 
 returns-3 : tie.Need-returns-3
-returns-3 c = edge-given (says-true (c .before .before .before .before .before .has-shape .ensures) (not-false _ (c .before .before .before .before .if1 .left))) (c .before .before .before .first-bad-node .ensures) (c .before .before .if2 .left) (c .if3 .taken) (c .before .first-bad-edge .ensures)
+returns-3 c = edge-given _ (says-true (c .before .before .before .before .before .has-shape .ensures) (not-false _ (c .before .before .before .before .if1 .left))) (c .before .before .before .first-bad-node .ensures) (c .before .before .if2 .left) (c .if3 .taken) (c .before .first-bad-edge .ensures)
 
 first-entry-requires : tie.Need-first-entry-requires
 first-entry-requires c κs = let s = says-true (c .before .before .before .before .before .has-shape .ensures) (not-false _ (c .before .before .before .before .if1 .left)) in search needs
 
 returns-4 : tie.Need-returns-4
-returns-4 c = accepted-given (says-true (c .before .before .before .before .before .before .before .has-shape .ensures) (not-false _ (c .before .before .before .before .before .before .if1 .left))) (c .before .before .before .before .before .first-bad-node .ensures) (c .before .before .before .before .if2 .left) (c .before .before .before .first-bad-edge .ensures) (c .before .before .if3 .left) (c .before .first-entry .ensures) (c .if4 .taken)
+returns-4 c = accepted-given _ (says-true (c .before .before .before .before .before .before .before .has-shape .ensures) (not-false _ (c .before .before .before .before .before .before .if1 .left))) (c .before .before .before .before .before .first-bad-node .ensures) (c .before .before .before .before .if2 .left) (c .before .before .before .first-bad-edge .ensures) (c .before .before .if3 .left) (c .before .first-entry .ensures) (c .if4 .taken)
 
 returns-5 : tie.Need-returns-5
-returns-5 c = entry-given (says-true (c .before .before .before .before .before .before .before .has-shape .ensures) (not-false _ (c .before .before .before .before .before .before .if1 .left))) (c .before .before .before .before .before .first-bad-node .ensures) (c .before .before .before .before .if2 .left) (c .before .before .before .first-bad-edge .ensures) (c .before .before .if3 .left) (c .before .first-entry .ensures) (c .if4 .left)
+returns-5 c = entry-given _ (says-true (c .before .before .before .before .before .before .before .has-shape .ensures) (not-false _ (c .before .before .before .before .before .before .if1 .left))) (c .before .before .before .before .before .first-bad-node .ensures) (c .before .before .before .before .if2 .left) (c .before .before .before .first-bad-edge .ensures) (c .before .before .if3 .left) (c .before .first-entry .ensures) (c .if4 .left)
 
 pub check-spec : {M : Type 1} → statement M
 check-spec =

@@ -83,10 +83,10 @@ entry? g n = not? (eq? (getD (g .entries) n 0) 1)
 
 -- ---- the answer that the searches lead to
 
-pub edge-given : {g : Graph} {i e : ℕ} → Shape g → First (NodeObeys g) (g .n) i → g .n ≤ i → e < g .m → First (EdgeObeys g) (g .m) e → Judges g (Refused (why.Edge e))
-edge-given s fi h l fe = refused (edge s (first-all fi h) l fe)
+pub edge-given : (g : Graph) {i e : ℕ} → Shape g → First (NodeObeys g) (g .n) i → g .n ≤ i → e < g .m → First (EdgeObeys g) (g .m) e → Judges g (Refused (why.Edge e))
+edge-given g s fi h l fe = refused (edge s (first-all fi h) l fe)
 
-module _ {g : Graph} {i e r : ℕ} (s : Shape g) (fi : First (NodeObeys g) (g .n) i) (hi : g .n ≤ i) (fe : First (EdgeObeys g) (g .m) e) (he : g .m ≤ e) (fr : First (NoEntry (g .entries)) (g .n) r) where
+module _ (g : Graph) {i e r : ℕ} (s : Shape g) (fi : First (NodeObeys g) (g .n) i) (hi : g .n ≤ i) (fe : First (EdgeObeys g) (g .m) e) (he : g .m ≤ e) (fr : First (NoEntry (g .entries)) (g .n) r) where
   marked : (NoEntry (g .entries) r → ⊥) → getD (g .entries) r 0 ≡ 1
   marked d = by-split (eqb (getD (g .entries) r 0) 1) (eqb-true _ 1) (λ f. absurd (d (eqb-false _ 1 f)))
 
@@ -110,9 +110,9 @@ judge-judges g =
         → Judges g (cond s (cond a (Refused (why.Node i)) (cond b (Refused (why.Edge e)) (cond d Accepted (Refused why.NoEntry)))) (Refused why.Shape))
     go false (fails s) i fi a _ e fe b _ r fr d _ = refused (shape s)
     go true (holds s) i fi true (holds p) e fe b _ r fr d _ = refused (node s p fi)
-    go true (holds s) i fi false (fails p) e fe true (holds q) r fr d _ = edge-given s fi (omega arith) q fe
-    go true (holds s) i fi false (fails p) e fe false (fails q) r fr true (holds t) = accepted-given s fi (omega arith) fe (omega arith) fr t
-    go true (holds s) i fi false (fails p) e fe false (fails q) r fr false (fails t) = entry-given s fi (omega arith) fe (omega arith) fr (omega arith)
+    go true (holds s) i fi false (fails p) e fe true (holds q) r fr d _ = edge-given g s fi (omega arith) q fe
+    go true (holds s) i fi false (fails p) e fe false (fails q) r fr true (holds t) = accepted-given g s fi (omega arith) fe (omega arith) fr t
+    go true (holds s) i fi false (fails p) e fe false (fails q) r fr false (fails t) = entry-given g s fi (omega arith) fe (omega arith) fr (omega arith)
 
 -- ---- what is given is the computed answer
 

@@ -3,6 +3,8 @@
 pub mod Rules
 pub mod Arrivals
 pub mod Edges
+pub mod Rule
+pub mod Code
 pub mod Solutions
 pub mod Growth
 pub mod Rounds

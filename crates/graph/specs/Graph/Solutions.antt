@@ -3,34 +3,19 @@ use Prim.Native.Nat.{ℕ, _<_}
 use mathlib.Core.Path.{_≡_, refl, sym, _∙_}
 use mathlib.Core.Bool.{Bool, true, false}
 use Rattle.truth.specs.Truth.Bools.{by-split, same-bool}
-use Rattle.graph.specs.Graph.{Graph, isCheck, check, privileged, grants, from, to, isCall, Acceptable, System, may, sure, Outs, Arrival, mark, edge, arriving, inSet, callSet, pastSet, outSet, Within, Same, LeastMay, GreatestSure}
+use Rattle.graph.specs.Graph.{Graph, isCheck, check, privileged, grants, from, to, isCall, Acceptable, System, may, sure, Outs, Arrival, mark, edge, arriving, inSet, pastSet, outSet, Within, Same, LeastMay, GreatestSure}
 use Rattle.graph.specs.Graph.Rules.{check-low, from-low, transfer-same}
 use Rattle.graph.specs.Graph.Arrivals.{Arrives, by-mark, by-edge, arriving-mark, arriving-edge}
-use Rattle.graph.specs.Graph.Edges.{in-may, in-sure, call-privileged, call-at-least, call-at-most, past-may, past-sure, call-edge, transfer-plain, transfer-privileged, transfer-past}
+use Rattle.graph.specs.Graph.Edges.{in-may, in-sure, past-may, past-sure, call-edge, transfer-plain, transfer-privileged, transfer-past}
+use Rattle.graph.specs.Graph.Rule.{out-by-rule, out-rule-mono}
 
--- ---- an out set grows with the sets of its from node
-
-module _ (g : Graph) (y : System) (x x′ : Outs) (n p : ℕ) (ins : inSet g y x n p ≡ true → inSet g y x′ n p ≡ true) where
-  call-mono : callSet g y x n p ≡ true → callSet g y x′ n p ≡ true
-  unfolding callSet
-  call-mono t = by-split (privileged g n p) (λ v. call-privileged g y x′ n p v .1 (call-privileged g y x n p v .0 t)) (λ v. rw v (ins (call-at-most g y x n p v t)))
+-- ---- both systems grow with their sets
 
 module _ (g : Graph) (w w′ : Outs) (y : System) (x x′ : Outs) (e p : ℕ)
     (ins : inSet g y x (from g e) p ≡ true → inSet g y x′ (from g e) p ≡ true)
     (past : isCheck g (from g e) ≡ true → pastSet g w y x (from g e) p ≡ true → pastSet g w′ y x′ (from g e) p ≡ true) where
   out-mono : outSet g w y x e p ≡ true → outSet g w′ y x′ e p ≡ true
-  out-mono t =
-      by-split (isCall g e)
-      (λ c. let r = call-edge g w y x e p c .0 t in call-edge g w′ y x′ e p c .1 (call-mono g y x x′ (from g e) p ins (r .0), r .1))
-      (λ c.
-      by-split (isCheck g (from g e))
-      (λ k.
-      by-split (privileged g (from g e) (check g (from g e)))
-      (λ v. let r = transfer-privileged g w y x e p c k v .0 t in transfer-privileged g w′ y x′ e p c k v .1 (r .0, ins (r .1)))
-      (λ v. transfer-past g w′ y x′ e p c k v .1 (past k (transfer-past g w y x e p c k v .0 t))))
-      (λ k. transfer-plain g w′ y x′ e p c k .1 (ins (transfer-plain g w y x e p c k .0 t))))
-
--- ---- so do both systems
+  out-mono t = out-by-rule g w′ y x′ e p ∙ out-rule-mono g e p _ _ _ _ ins past (sym (out-by-rule g w y x e p) ∙ t)
 
 module _ (g : Graph) (x y : Outs) (p : ℕ) (h : (e : ℕ) → e < g .m → x e p ≡ true → y e p ≡ true) (n : ℕ) where
   arriving-mono : (a : Arrival) → Arrives g n a → arriving g x n a p ≡ true → arriving g y n a p ≡ true

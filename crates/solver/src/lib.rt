@@ -1,0 +1,330 @@
+// The solver: for every node what is surely denied and surely granted, by the two equation systems.
+use graph::Judged;
+use sets::Set;
+ghost use mathlib.Core.Path.{_≡_};
+ghost use mathlib.Core.Bool.{true, false, _&&_};
+ghost use Prim.Native.Nat.{ℕ, _+_, _≤_, _<_};
+ghost use lib.ListN.{length, getD};
+ghost use lib.Dec.{eqb};
+ghost use Rattle.truth.specs.Truth.{Says};
+ghost use Rattle.sets.specs.Sets.{has};
+ghost use Rattle.graph.specs.Graph.{graphOf, Acceptable};
+ghost use Rattle.solver.specs.Walk.{systemOf, start, merge, callNum, pastNum, transNum, edgeNum, judgedNum, startIns, startPast, movedBy, carriedBy, state, fresh, sendFrom, Linked, Sendable, Delivered, Put, Begun, Storable, NodesStored};
+
+// One set more arrives: MAY joins it, SURE takes the common part.
+fn merge(sure: bool, sum: u64, more: u64) -> u64
+    ensures { λ r. ⌜ r ≡ merge (systemOf sure) sum more ⌝ }
+{
+    if sure {
+        return Set { bits: sum }.common(Set { bits: more }).bits;
+    }
+    Set { bits: sum }.join(Set { bits: more }).bits
+}
+
+// A sum before anything arrives.
+fn start(sure: bool, k: usize) -> u64
+    ensures { λ r. ⌜ r ≡ start (systemOf sure) k ⌝ }
+{
+    if sure {
+        return Set::all(k).bits;
+    }
+    Set::EMPTY.bits
+}
+
+// The call set of a node with the sum `arrived`.
+fn called(privileged: u8, grants: u64, arrived: u64) -> u64
+    ensures { λ r. ⌜ r ≡ callNum privileged grants arrived ⌝ }
+{
+    if privileged == 1 {
+        return grants;
+    }
+    arrived
+}
+
+// What is past an unprivileged check with the sum `past` of what passes it.
+fn passed(sure: bool, check: u16, past: u64, any: u64) -> u64
+    ensures { λ r. ⌜ r ≡ pastNum (systemOf sure) check past (has any check) ⌝ }
+{
+    if !sure {
+        return past;
+    }
+    let p = check as usize;
+    let all = Set { bits: any };
+    if all.has(p) {
+        return Set { bits: past }.add(p).bits;
+    }
+    Set::EMPTY.bits
+}
+
+// The trans set of a node, from its sum and what is past its check.
+fn moved(kind: u8, check: u16, privileged: u8, grants: u64, arrived: u64, past: u64) -> u64
+    ensures { λ r. ⌜ r ≡ transNum kind check privileged grants arrived past ⌝ }
+{
+    if kind != 2 {
+        return arrived;
+    }
+    if privileged != 1 {
+        return past;
+    }
+    let own = Set { bits: grants };
+    if own.has(check as usize) {
+        return arrived;
+    }
+    Set::EMPTY.bits
+}
+
+// The out set of an edge, from its from node's call and trans sets and its to node's grants.
+fn carry(way: u8, called: u64, moved: u64, into: u64) -> u64
+    ensures { λ r. ⌜ r ≡ edgeNum way called moved into ⌝ }
+{
+    if way == 0 {
+        return Set { bits: called }.common(Set { bits: into }).bits;
+    }
+    moved
+}
+
+// Whether a set counts at the check of the node that it arrives at, judged by the set `by`.
+fn counts(kind: u8, check: u16, by: u64) -> bool
+    ensures { λ r. ⌜ r ≡ (eqb kind 2 && has by check) ⌝ }
+{
+    if kind != 2 {
+        return false;
+    }
+    Set { bits: by }.has(check as usize)
+}
+
+// The set by which the set v of edge e is judged.
+fn judged(sure: bool, wide: &[u64], e: usize, v: u64) -> u64
+    requires { ⌜ e < length (now wide) ⌝ }
+    ensures { λ r. ⌜ r ≡ judgedNum (systemOf sure) (getD (now (wide .entry)) e 0) v ⌝ }
+{
+    if sure {
+        return wide[e];
+    }
+    v
+}
+
+// A set arrives at node b, and counts there or not. Whether a sum of the node changed.
+fn deliver(ins: &mut [u64], past: &mut [u64], sure: bool, b: usize, v: u64, counted: bool) -> bool
+    requires { ⌜ (b < length (now ins)) × (b < length (now past)) ⌝ }
+    ensures { λ r. ⌜ Delivered (systemOf sure) (now (ins .entry)) (now (past .entry)) b v counted (now (ins .exit)) (now (past .exit)) r ⌝ }
+{
+    let sum = ins[b];
+    let more = merge(sure, sum, v);
+    ins[b] = more;
+    if !counted {
+        return more != sum;
+    }
+    let passing = past[b];
+    let after = merge(sure, passing, v);
+    past[b] = after;
+    if more != sum {
+        return true;
+    }
+    after != passing
+}
+
+// Node b goes on the stack where its sums changed and it is not there. The stack's new height.
+fn put(marks: &mut [u8], stack: &mut [u16], b: usize, changed: bool, top: usize) -> usize
+    requires { ⌜ (b < length (now marks)) × (b < 65536) ⌝ }
+    ensures { λ r. ⌜ Put (now (marks .entry)) (now (stack .entry)) top b (fresh (now (marks .entry)) (now (stack .entry)) top b changed) (now (marks .exit)) (now (stack .exit)) r ⌝ }
+{
+    if !changed {
+        return top;
+    }
+    if marks[b] != 0 {
+        return top;
+    }
+    if stack.len() <= top {
+        return top;
+    }
+    marks[b] = 1;
+    stack[top] = b as u16;
+    top + 1
+}
+
+// What a node's call and trans sets bring to the nodes at the other ends of its edges, which start before `first`. The stack's new height.
+fn send(
+    ins: &mut [u64],
+    past: &mut [u64],
+    marks: &mut [u8],
+    stack: &mut [u16],
+    sure: bool,
+    call: u64,
+    trans: u64,
+    first: u16,
+    top: usize,
+    kinds: &[u8],
+    checks: &[u16],
+    grants: &[u64],
+    tos: &[u16],
+    ways: &[u8],
+    wide: &[u64],
+    prev: &[u16],
+) -> usize
+    requires { ⌜ Sendable (now kinds) (now checks) (now grants) (now tos) (now ways) (systemOf sure) (now wide) (now prev) (now ins) (now past) (now marks) ⌝ }
+    requires { ⌜ first ≤ length (now tos) ⌝ }
+    ensures { λ r. ⌜ state (now (ins .exit)) (now (past .exit)) (now (marks .exit)) (now (stack .exit)) r ≡ sendFrom (now (kinds .entry)) (now (checks .entry)) (now (grants .entry)) (now (tos .entry)) (now (ways .entry)) (systemOf sure) (now (wide .entry)) (now (prev .entry)) call trans first first (state (now (ins .entry)) (now (past .entry)) (now (marks .entry)) (now (stack .entry)) top) ⌝ }
+{
+    let mut t = top;
+    let mut cur = first;
+    while cur != 0 {
+        let e = (cur - 1) as usize;
+        let b = tos[e] as usize;
+        let v = carry(ways[e], call, trans, grants[b]);
+        let by = judged(sure, wide, e, v);
+        let counted = counts(kinds[b], checks[b], by);
+        let changed = deliver(ins, past, sure, b, v, counted);
+        t = put(marks, stack, b, changed, t);
+        cur = prev[e];
+    }
+    t
+}
+
+// The edges that leave each node, as lists that start at head and go on by prev, from the last to the first: one more than an edge's
+// number, and 0 at the end.
+fn link(head: &mut [u16], prev: &mut [u16], n: usize, m: usize, froms: &[u16])
+    requires { ⌜ (length (now froms) ≡ m) × (m < 65535) × (m ≤ length (now prev)) × (n ≤ length (now head)) ⌝ }
+    requires { ⌜ ((e : ℕ) → e < m → getD (now froms) e 0 < n) ⌝ }
+    requires { ⌜ ((i : ℕ) → i < n → getD (now head) i 0 ≡ 0) ⌝ }
+    ensures { λ r. ⌜ Linked (now (froms .entry)) n (now (head .exit)) (now (prev .exit)) m ⌝ }
+{
+    let mut e = 0;
+    while e < m {
+        let i = froms[e] as usize;
+        prev[e] = head[i];
+        head[i] = (e + 1) as u16;
+        e += 1;
+    }
+}
+
+// Every node goes on the stack.
+fn fill(stack: &mut [u16], n: usize)
+    requires { ⌜ (n ≤ length (now stack)) × (n < 65536) ⌝ }
+    ensures { λ r. ⌜ ((i : ℕ) → i < n → getD (now (stack .exit)) i 0 ≡ i) ⌝ }
+{
+    let mut i = 0;
+    while i < n {
+        stack[i] = i as u16;
+        i += 1;
+    }
+}
+
+fn first_sum(sure: bool, k: usize, entry: u8, grants: u64) -> u64
+    ensures { λ r. ⌜ r ≡ startIns (systemOf sure) k entry grants ⌝ }
+{
+    if entry == 1 {
+        return grants;
+    }
+    start(sure, k)
+}
+
+fn first_passing(sure: bool, k: usize, entry: u8, grants: u64, check: u16) -> u64
+    ensures { λ r. ⌜ r ≡ startPast (systemOf sure) k entry grants check ⌝ }
+{
+    let own = Set { bits: grants };
+    if entry == 1 {
+        if own.has(check as usize) {
+            return grants;
+        }
+    }
+    start(sure, k)
+}
+
+// The sums of all nodes before anything but the entry marks arrives.
+fn begin(
+    ins: &mut [u64],
+    past: &mut [u64],
+    sure: bool,
+    k: usize,
+    n: usize,
+    checks: &[u16],
+    entries: &[u8],
+    grants: &[u64],
+)
+    requires { ⌜ (n ≤ length (now ins)) × (n ≤ length (now past)) × (n ≤ length (now checks)) × (n ≤ length (now entries)) × (n ≤ length (now grants)) ⌝ }
+    ensures { λ r. ⌜ Begun (systemOf sure) k n (now (checks .entry)) (now (entries .entry)) (now (grants .entry)) (now (ins .exit)) (now (past .exit)) ⌝ }
+{
+    let mut i = 0;
+    while i < n {
+        ins[i] = first_sum(sure, k, entries[i], grants[i]);
+        past[i] = first_passing(sure, k, entries[i], grants[i], checks[i]);
+        i += 1;
+    }
+}
+
+// The trans set of node i.
+fn trans_at(
+    sure: bool,
+    i: usize,
+    kinds: &[u8],
+    checks: &[u16],
+    privileged: &[u8],
+    grants: &[u64],
+    any: &[u64],
+    ins: &[u64],
+    past: &[u64],
+) -> u64
+    requires { ⌜ (i < length (now kinds)) × (i < length (now checks)) × (i < length (now privileged)) × (i < length (now grants)) ⌝ }
+    requires { ⌜ (i < length (now any)) × (i < length (now ins)) × (i < length (now past)) ⌝ }
+    ensures { λ r. ⌜ r ≡ movedBy (now (kinds .entry)) (now (checks .entry)) (now (privileged .entry)) (now (grants .entry)) (systemOf sure) (now (any .entry)) (now (ins .entry)) (now (past .entry)) i ⌝ }
+{
+    let beyond = passed(sure, checks[i], past[i], any[i]);
+    moved(kinds[i], checks[i], privileged[i], grants[i], ins[i], beyond)
+}
+
+// The out sets of all edges, from the sums of the nodes.
+fn store_outs(
+    out: &mut [u64],
+    sure: bool,
+    n: usize,
+    m: usize,
+    kinds: &[u8],
+    checks: &[u16],
+    privileged: &[u8],
+    grants: &[u64],
+    froms: &[u16],
+    tos: &[u16],
+    ways: &[u8],
+    any: &[u64],
+    ins: &[u64],
+    past: &[u64],
+)
+    requires { ⌜ Storable n m (length (now out)) (now kinds) (now checks) (now privileged) (now grants) (now froms) (now tos) (now ways) (now any) (now ins) (now past) ⌝ }
+    ensures { λ r. ⌜ ((e : ℕ) → e < m → getD (now (out .exit)) e 0 ≡ carriedBy (now (kinds .entry)) (now (checks .entry)) (now (privileged .entry)) (now (grants .entry)) (now (froms .entry)) (now (tos .entry)) (now (ways .entry)) (systemOf sure) (now (any .entry)) (now (ins .entry)) (now (past .entry)) e) ⌝ }
+{
+    let mut e = 0;
+    while e < m {
+        let a = froms[e] as usize;
+        let b = tos[e] as usize;
+        let call = called(privileged[a], grants[a], ins[a]);
+        let trans = trans_at(sure, a, kinds, checks, privileged, grants, any, ins, past);
+        out[e] = carry(ways[e], call, trans, grants[b]);
+        e += 1;
+    }
+}
+
+// The denied and granted sets of all nodes, from the sums of both systems.
+fn store_nodes(
+    denied: &mut [u64],
+    granted: &mut [u64],
+    k: usize,
+    n: usize,
+    privileged: &[u8],
+    grants: &[u64],
+    may_ins: &[u64],
+    sure_ins: &[u64],
+)
+    requires { ⌜ (n ≤ length (now denied)) × (n ≤ length (now granted)) × (n ≤ length (now privileged)) × (n ≤ length (now grants)) × (n ≤ length (now «may_ins»)) × (n ≤ length (now «sure_ins»)) ⌝ }
+    ensures { λ r. ⌜ NodesStored k n (now (privileged .entry)) (now (grants .entry)) (now («may_ins» .entry)) (now («sure_ins» .entry)) (now (denied .exit)) (now (granted .exit)) ⌝ }
+{
+    let mut i = 0;
+    while i < n {
+        let may = Set {
+            bits: called(privileged[i], grants[i], may_ins[i]),
+        };
+        denied[i] = Set::all(k).without(may).bits;
+        granted[i] = called(privileged[i], grants[i], sure_ins[i]);
+        i += 1;
+    }
+}

@@ -1,15 +1,25 @@
 -- The solver's walk, for both systems: what it computes from the running sums of the nodes, and what holds of them on the way.
 -- A node has two running sums: of all that arrives, in the list s, and of what arrives and passes its check, in the list q.
+pub mod Filled
+pub mod Links
 pub mod Order
-use Prim.Native.Nat.{ℕ, zero, suc, _+_, _-_, _≤_, _<_, _^_}
+pub mod Sent
+pub mod Sums
+pub mod Settled
+pub mod Stack
+pub mod Steps
+pub mod Taken
+pub mod Stored
+use Prim.Native.Nat.{ℕ, zero, suc, _+_, _-_, _*_, _≤_, _<_, _^_}
 use mathlib.Core.Path.{_≡_}
 use mathlib.Core.List.{List, [], _∷_}
 use mathlib.Core.Bool.{Bool, true, false, cond, _&&_, not, _||_}
 use lib.Dec.{eqb, ltb}
 use lib.ListN.{length, getD, set}
-use Rattle.truth.specs.Truth.{_⇒_}
 use Rattle.sets.specs.Sets.{has, empty, all, join, common, without, add}
-use Rattle.graph.specs.Graph.{Graph, System, may, sure, Outs, Arrival, arriving, someArrival, everyArrival, inSet, outSet, Within, held}
+use mathlib.Core.Logic.{_↔_}
+use Rattle.graph.specs.Graph.{Graph, isCheck, check, Acceptable, System, may, sure, Outs, Arrival, arriving, inSet, pastSet, outSet, Within, held}
+use Rattle.graph.specs.Graph.Arrivals.{Arrives}
 
 -- ---- numbers
 
@@ -204,20 +214,33 @@ abbrev pub Closed : Graph → System → List ℕ → Outs → Type 0
 Closed g may w z = Within g (outSet g z may z) z
 Closed g sure w z = Within g z (outSet g (held w) sure z)
 
--- what counts at a check n, of out sets z
-pub passing : Graph → System → List ℕ → Outs → ℕ → ℕ → Bool
-passing g may w z n p = someArrival g n (λ a. arriving g z n a (getD (g .checks) n 0) && arriving g z n a p)
-passing g sure w z n p = everyArrival g n (λ a. arriving g (held w) n a (getD (g .checks) n 0) ⇒ arriving g z n a p)
+-- b, which says whether p is in the sum of what passes the check n, goes no further than out sets z allow
+abbrev pub PastBelow : Graph → System → List ℕ → Outs → (n p : ℕ) → Bool → Type 0
+PastBelow g may w z n p b = b ≡ true → pastSet g z may z n p ≡ true
+PastBelow g sure w z n p b =
+    ((x : Arrival) → Arrives g n x → arriving g (held w) n x (check g n) ≡ true → arriving g z n x p ≡ true) → b ≡ true
+
+-- for SURE, a says of every check whether anything that arrives passes it, by MAY's out sets w
+abbrev pub AnyPasses : Graph → System → (w a : List ℕ) → Type 0
+AnyPasses g may w a = Unit {0}
+AnyPasses g sure w a =
+    (n : ℕ) → n < g .n → isCheck g n ≡ true
+    → (has (getD a n 0) (check g n) ≡ true) ↔ ((x : Arrival) × Arrives g n x × (arriving g (held w) n x (check g n) ≡ true))
+
+-- the graph that a walk goes over is accepted, and for SURE what is known of MAY is true
+pub record Setting (g : Graph) (y : System) (w a : List ℕ) : Type 0 where
+  pub acc : Acceptable g
+  pub any : AnyPasses g y w a
 
 -- the sums hold what the entry marks give, and nothing that closed out sets would not
-pub record Sums (g : Graph) (y : System) (w s q : List ℕ) : Type 0 where
+pub record Good (g : Graph) (y : System) (w s q : List ℕ) : Type 0 where
   pub s-low : (n : ℕ) → n < g .n → getD s n 0 < 2 ^ g .k
   pub q-low : (n : ℕ) → n < g .n → getD q n 0 < 2 ^ g .k
   pub s-entry : (n p : ℕ) → n < g .n → p < g .k → getD (g .entries) n 0 ≡ 1 → Toward y (has (getD (g .grants) n 0) p) (has (getD s n 0) p)
   pub q-entry : (n p : ℕ) → n < g .n → p < g .k → getD (g .entries) n 0 ≡ 1 → has (getD (g .grants) n 0) (getD (g .checks) n 0) ≡ true
       → Toward y (has (getD (g .grants) n 0) p) (has (getD q n 0) p)
   pub s-below : (z : Outs) → Closed g y w z → (n p : ℕ) → n < g .n → p < g .k → Toward y (has (getD s n 0) p) (inSet g y z n p)
-  pub q-below : (z : Outs) → Closed g y w z → (n p : ℕ) → n < g .n → p < g .k → Toward y (has (getD q n 0) p) (passing g y w z n p)
+  pub q-below : (z : Outs) → Closed g y w z → (n p : ℕ) → n < g .n → p < g .k → PastBelow g y w z n p (has (getD q n 0) p)
 
 -- edge e has nothing to tell its to node
 pub record Quiet (g : Graph) (y : System) (w a s q : List ℕ) (e : ℕ) : Type 0 where
@@ -226,5 +249,53 @@ pub record Quiet (g : Graph) (y : System) (w a s q : List ℕ) (e : ℕ) : Type 
 
 -- every edge is quiet but those that leave a node which is marked in d
 pub record Pending (g : Graph) (y : System) (w a s q d : List ℕ) : Type 0 where
-  pub sums : Sums g y w s q
+  pub good : Good g y w s q
   pub quiet : (e : ℕ) → e < g .m → getD d (fromOf g e) 0 ≡ 0 → Quiet g y w a s q e
+
+-- ---- the stack
+
+unfoldable pub zeros : List ℕ → ℕ
+zeros [] = 0
+zeros (x ∷ d) = cond (eqb x 0) 1 0 + zeros d
+
+-- the stack has room for every node that is not marked, holds nodes, and holds every node that is marked
+pub record Stacked (nodes : ℕ) (d st : List ℕ) (top : ℕ) : Type 0 where
+  pub free : zeros d + top ≤ length st
+  pub entries : (j : ℕ) → j < top → getD st j 0 < nodes
+  pub marked : (n : ℕ) → n < nodes → (getD d n 0 ≡ 0 → ⊥) → (j : ℕ) × (j < top) × (getD st j 0 ≡ n)
+
+-- ---- what is left to do
+
+-- how far a sum can still move
+unfoldable pub leftOne : System → ℕ → ℕ
+leftOne may x = 2 ^ 64 - x
+leftOne sure x = x
+
+unfoldable pub left : System → List ℕ → ℕ
+left y [] = 0
+left y (x ∷ l) = leftOne y x + left y l
+
+-- a sum that moves pays for a place of the stack
+abbrev pub toDo : System → State → ℕ
+toDo y x = (left y (x .ins) + left y (x .past)) * 2 + x .top
+
+pub record Sized (n : ℕ) (x : State) : Type 0 where
+  pub ins-long : n ≤ length (x .ins)
+  pub past-long : n ≤ length (x .past)
+  pub marks-long : n ≤ length (x .marks)
+
+-- ---- the walk on its way: between two nodes, and at node n whose edges from before cur on are still to be told
+
+pub record Walking (g : Graph) (y : System) (w a : List ℕ) (x : State) : Type 0 where
+  pub pending : Pending g y w a (x .ins) (x .past) (x .marks)
+  pub stacked : Stacked (g .n) (x .marks) (x .stack) (x .top)
+  pub sized : Sized (g .n) x
+
+-- x₀ is the state in which n was taken up: while n is not marked again its sums are what they were
+pub record Sending (g : Graph) (y : System) (w a : List ℕ) (x₀ x : State) (n cur : ℕ) : Type 0 where
+  pub good : Good g y w (x .ins) (x .past)
+  pub quiet : (e : ℕ) → e < g .m → getD (x .marks) (fromOf g e) 0 ≡ 0 → (fromOf g e ≡ n → cur ≤ e) → Quiet g y w a (x .ins) (x .past) e
+  pub own : getD (x .marks) n 0 ≡ 0 → (getD (x .ins) n 0 ≡ getD (x₀ .ins) n 0) × (getD (x .past) n 0 ≡ getD (x₀ .past) n 0)
+  pub stacked : Stacked (g .n) (x .marks) (x .stack) (x .top)
+  pub sized : Sized (g .n) x
+  pub falls : toDo y x ≤ toDo y x₀

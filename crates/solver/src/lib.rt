@@ -1,5 +1,6 @@
 // The solver: for every node what is surely denied and surely granted, by the two equation systems.
 use graph::Judged;
+use graph::Refusal;
 use sets::Set;
 ghost use mathlib.Core.Path.{_≡_};
 ghost use mathlib.Core.Bool.{true, false, _&&_};
@@ -8,8 +9,10 @@ ghost use lib.ListN.{length, getD};
 ghost use lib.Dec.{eqb};
 ghost use Rattle.truth.specs.Truth.{Says};
 ghost use Rattle.sets.specs.Sets.{has};
-ghost use Rattle.graph.specs.Graph.{graphOf, Acceptable};
-ghost use Rattle.solver.specs.Walk.{systemOf, start, merge, callNum, pastNum, transNum, edgeNum, judgedNum, startIns, startPast, movedBy, carriedBy, state, fresh, sendFrom, Linked, Sendable, Delivered, Put, Begun, Storable, NodesStored};
+ghost use Rattle.graph.specs.Graph.{graphOf, Acceptable, Content, verdictOf};
+ghost use Rattle.solver.specs.Walk.{systemOf, start, merge, callNum, pastNum, transNum, edgeNum, judgedNum, startIns, startPast, movedBy, carriedBy, state, fresh, sendFrom, Linked, Sendable, Delivered, Put, Begun, Storable, NodesStored, Setting, Walking};
+ghost use Rattle.solver.specs.Walk.Settled.{Settled};
+ghost use Rattle.solver.specs.Solve.{slices, ResultsLong, Solves, verdictNumber, SetsLong, Rules};
 
 // One set more arrives: MAY joins it, SURE takes the common part.
 fn merge(sure: bool, sum: u64, more: u64) -> u64
@@ -270,7 +273,14 @@ fn trans_at(
     ensures { λ r. ⌜ r ≡ movedBy (now (kinds .entry)) (now (checks .entry)) (now (privileged .entry)) (now (grants .entry)) (systemOf sure) (now (any .entry)) (now (ins .entry)) (now (past .entry)) i ⌝ }
 {
     let beyond = passed(sure, checks[i], past[i], any[i]);
-    moved(kinds[i], checks[i], privileged[i], grants[i], ins[i], beyond)
+    moved(
+        kinds[i],
+        checks[i],
+        privileged[i],
+        grants[i],
+        ins[i],
+        beyond,
+    )
 }
 
 // The out sets of all edges, from the sums of the nodes.
@@ -327,4 +337,392 @@ fn store_nodes(
         granted[i] = called(privileged[i], grants[i], sure_ins[i]);
         i += 1;
     }
+}
+
+// Takes nodes from the stack and tells their edges, until there is none: a node is taken up again only after one of its sums changed.
+fn walk(
+    ins: &mut [u64],
+    past: &mut [u64],
+    marks: &mut [u8],
+    stack: &mut [u16],
+    sure: bool,
+    k: usize,
+    n: usize,
+    m: usize,
+    kinds: &[u8],
+    checks: &[u16],
+    privileged: &[u8],
+    entries: &[u8],
+    grants: &[u64],
+    froms: &[u16],
+    tos: &[u16],
+    ways: &[u8],
+    wide: &[u64],
+    any: &[u64],
+    head: &[u16],
+    prev: &[u16],
+)
+    requires { ⌜ Setting (graphOf k n m (now kinds) (now checks) (now privileged) (now entries) (now grants) (now froms) (now tos) (now ways)) (systemOf sure) (now wide) (now any) ⌝ }
+    requires { ⌜ Walking (graphOf k n m (now kinds) (now checks) (now privileged) (now entries) (now grants) (now froms) (now tos) (now ways)) (systemOf sure) (now wide) (now any) (state (now ins) (now past) (now marks) (now stack) n) ⌝ }
+    requires { ⌜ Linked (now froms) n (now head) (now prev) m ⌝ }
+    requires { ⌜ (m ≤ length (now wide)) × (n ≤ length (now any)) × (n ≤ length (now head)) × (m ≤ length (now prev)) ⌝ }
+    ensures { λ r. ⌜ Walking (graphOf k n m (now (kinds .entry)) (now (checks .entry)) (now (privileged .entry)) (now (entries .entry)) (now (grants .entry)) (now (froms .entry)) (now (tos .entry)) (now (ways .entry))) (systemOf sure) (now (wide .entry)) (now (any .entry)) (state (now (ins .exit)) (now (past .exit)) (now (marks .exit)) (now (stack .exit)) 0) ⌝ }
+{
+    let mut top = n;
+    while 0 < top {
+        let t = top - 1;
+        let i = stack[t] as usize;
+        marks[i] = 0;
+        let call = called(privileged[i], grants[i], ins[i]);
+        let trans = trans_at(sure, i, kinds, checks, privileged, grants, any, ins, past);
+        top = send(
+            ins,
+            past,
+            marks,
+            stack,
+            sure,
+            call,
+            trans,
+            head[i],
+            t,
+            kinds,
+            checks,
+            grants,
+            tos,
+            ways,
+            wide,
+            prev,
+        );
+    }
+}
+
+// One system: the sums of its nodes, and the out sets of its edges.
+fn run(
+    ins: &mut [u64],
+    past: &mut [u64],
+    out: &mut [u64],
+    sure: bool,
+    k: usize,
+    n: usize,
+    m: usize,
+    kinds: &[u8],
+    checks: &[u16],
+    privileged: &[u8],
+    entries: &[u8],
+    grants: &[u64],
+    froms: &[u16],
+    tos: &[u16],
+    ways: &[u8],
+    wide: &[u64],
+    any: &[u64],
+    head: &[u16],
+    prev: &[u16],
+)
+    requires { ⌜ Setting (graphOf k n m (now kinds) (now checks) (now privileged) (now entries) (now grants) (now froms) (now tos) (now ways)) (systemOf sure) (now wide) (now any) ⌝ }
+    requires { ⌜ Linked (now froms) n (now head) (now prev) m ⌝ }
+    requires { ⌜ (m ≤ length (now wide)) × (n ≤ length (now any)) × (n ≤ length (now head)) × (m ≤ length (now prev)) ⌝ }
+    requires { ⌜ (n ≤ length (now ins)) × (n ≤ length (now past)) × (m ≤ length (now out)) ⌝ }
+    ensures { λ r. ⌜ Settled (graphOf k n m (now (kinds .entry)) (now (checks .entry)) (now (privileged .entry)) (now (entries .entry)) (now (grants .entry)) (now (froms .entry)) (now (tos .entry)) (now (ways .entry))) (systemOf sure) (now (wide .entry)) (now (any .entry)) (now (ins .exit)) (now (past .exit)) (now (out .exit)) ⌝ }
+{
+    let mut marks = [1u8; 1024];
+    let mut stack = [0u16; 1024];
+    begin(ins, past, sure, k, n, checks, entries, grants);
+    fill(&mut stack, n);
+    walk(
+        ins,
+        past,
+        &mut marks,
+        &mut stack,
+        sure,
+        k,
+        n,
+        m,
+        kinds,
+        checks,
+        privileged,
+        entries,
+        grants,
+        froms,
+        tos,
+        ways,
+        wide,
+        any,
+        head,
+        prev,
+    );
+    store_outs(
+        out,
+        sure,
+        n,
+        m,
+        kinds,
+        checks,
+        privileged,
+        grants,
+        froms,
+        tos,
+        ways,
+        any,
+        ins,
+        past,
+    );
+}
+
+// The content of the four slices for an accepted graph.
+fn store(
+    denied: &mut [u64],
+    granted: &mut [u64],
+    may: &mut [u64],
+    sure: &mut [u64],
+    k: usize,
+    n: usize,
+    m: usize,
+    kinds: &[u8],
+    checks: &[u16],
+    privileged: &[u8],
+    entries: &[u8],
+    grants: &[u64],
+    froms: &[u16],
+    tos: &[u16],
+    ways: &[u8],
+)
+    requires { ⌜ Acceptable (graphOf k n m (now kinds) (now checks) (now privileged) (now entries) (now grants) (now froms) (now tos) (now ways)) ⌝ }
+    requires { ⌜ ResultsLong n m (length (now denied)) (length (now granted)) (length (now may)) (length (now sure)) ⌝ }
+    ensures { λ r. ⌜ Content (graphOf k n m (now (kinds .entry)) (now (checks .entry)) (now (privileged .entry)) (now (entries .entry)) (now (grants .entry)) (now (froms .entry)) (now (tos .entry)) (now (ways .entry))) (slices (now (denied .exit)) (now (granted .exit)) (now (may .exit)) (now (sure .exit))) ⌝ }
+{
+    let mut head = [0u16; 1024];
+    let mut prev = [0u16; 4096];
+    let mut may_ins = [0u64; 1024];
+    let mut may_past = [0u64; 1024];
+    let mut sure_ins = [0u64; 1024];
+    let mut sure_past = [0u64; 1024];
+    link(&mut head, &mut prev, n, m, froms);
+    run(
+        &mut may_ins,
+        &mut may_past,
+        may,
+        false,
+        k,
+        n,
+        m,
+        kinds,
+        checks,
+        privileged,
+        entries,
+        grants,
+        froms,
+        tos,
+        ways,
+        sure,
+        &sure_past,
+        &head,
+        &prev,
+    );
+    run(
+        &mut sure_ins,
+        &mut sure_past,
+        sure,
+        true,
+        k,
+        n,
+        m,
+        kinds,
+        checks,
+        privileged,
+        entries,
+        grants,
+        froms,
+        tos,
+        ways,
+        may,
+        &may_past,
+        &head,
+        &prev,
+    );
+    store_nodes(
+        denied,
+        granted,
+        k,
+        n,
+        privileged,
+        grants,
+        &may_ins,
+        &sure_ins,
+    );
+}
+
+// By the lengths of the result slices.
+fn results_long(n: usize, m: usize, denied: usize, granted: usize, may: usize, sure: usize) -> bool
+    ensures { λ r. ⌜ Says (ResultsLong n m denied granted may sure) r ⌝ }
+{
+    if denied != n {
+        return false;
+    }
+    if granted != n {
+        return false;
+    }
+    if may != m {
+        return false;
+    }
+    sure == m
+}
+
+// Solves both systems, and stores the denied and granted sets of every node and the MAY and SURE out sets of every edge. A refusal
+// stores nothing.
+pub fn solve(
+    k: usize,
+    n: usize,
+    m: usize,
+    kinds: &[u8],
+    checks: &[u16],
+    privileged: &[u8],
+    entries: &[u8],
+    grants: &[u64],
+    froms: &[u16],
+    tos: &[u16],
+    ways: &[u8],
+    denied: &mut [u64],
+    granted: &mut [u64],
+    may: &mut [u64],
+    sure: &mut [u64],
+) -> Judged
+    ensures { λ r. ⌜ Solves (graphOf k n m (now (kinds .entry)) (now (checks .entry)) (now (privileged .entry)) (now (entries .entry)) (now (grants .entry)) (now (froms .entry)) (now (tos .entry)) (now (ways .entry))) (slices (now (denied .entry)) (now (granted .entry)) (now (may .entry)) (now (sure .entry))) r (slices (now (denied .exit)) (now (granted .exit)) (now (may .exit)) (now (sure .exit))) ⌝ }
+{
+    if !results_long(n, m, denied.len(), granted.len(), may.len(), sure.len()) {
+        return Judged::Refused(Refusal::Shape);
+    }
+    let judged = graph::check(
+        k,
+        n,
+        m,
+        kinds,
+        checks,
+        privileged,
+        entries,
+        grants,
+        froms,
+        tos,
+        ways,
+    );
+    match judged {
+        Judged::Accepted => {
+            store(
+                denied,
+                granted,
+                may,
+                sure,
+                k,
+                n,
+                m,
+                kinds,
+                checks,
+                privileged,
+                entries,
+                grants,
+                froms,
+                tos,
+                ways,
+            );
+            Judged::Accepted
+        }
+        Judged::Refused(why) => Judged::Refused(why),
+    }
+}
+
+// What the two sets say of a check.
+pub enum Finding {
+    Needed,
+    AlwaysPasses,
+    AlwaysFails,
+    NeverReached,
+}
+
+pub enum Ruling {
+    Given(Finding),
+    Refused(Refusal),
+}
+
+fn judge_check(denied: bool, granted: bool) -> Finding
+    ensures { λ r. ⌜ verdictNumber r ≡ verdictOf denied granted ⌝ }
+{
+    if denied {
+        if granted {
+            return Finding::NeverReached;
+        }
+        return Finding::AlwaysFails;
+    }
+    if granted {
+        return Finding::AlwaysPasses;
+    }
+    Finding::Needed
+}
+
+// By the lengths of the denied and granted slices.
+fn sets_long(n: usize, denied: usize, granted: usize) -> bool
+    ensures { λ r. ⌜ Says (SetsLong n denied granted) r ⌝ }
+{
+    if denied != n {
+        return false;
+    }
+    granted == n
+}
+
+// The verdict at a check of an accepted graph.
+fn rule(denied: &[u64], granted: &[u64], check: u16, node: usize) -> Finding
+    requires { ⌜ (node < length (now denied)) × (node < length (now granted)) ⌝ }
+    ensures { λ r. ⌜ verdictNumber r ≡ verdictOf (has (getD (now (denied .entry)) node 0) check) (has (getD (now (granted .entry)) node 0) check) ⌝ }
+{
+    let p = check as usize;
+    let fails = Set { bits: denied[node] }.has(p);
+    let passes = Set {
+        bits: granted[node],
+    }.has(p);
+    judge_check(fails, passes)
+}
+
+// What the denied and granted sets, taken as they are, say of the check at a node.
+pub fn verdict(
+    k: usize,
+    n: usize,
+    m: usize,
+    kinds: &[u8],
+    checks: &[u16],
+    privileged: &[u8],
+    entries: &[u8],
+    grants: &[u64],
+    froms: &[u16],
+    tos: &[u16],
+    ways: &[u8],
+    denied: &[u64],
+    granted: &[u64],
+    node: usize,
+) -> Ruling
+    ensures { λ r. ⌜ Rules (graphOf k n m (now (kinds .entry)) (now (checks .entry)) (now (privileged .entry)) (now (entries .entry)) (now (grants .entry)) (now (froms .entry)) (now (tos .entry)) (now (ways .entry))) (now (denied .entry)) (now (granted .entry)) node r ⌝ }
+{
+    if !sets_long(n, denied.len(), granted.len()) {
+        return Ruling::Refused(Refusal::Shape);
+    }
+    let judged = graph::check(
+        k,
+        n,
+        m,
+        kinds,
+        checks,
+        privileged,
+        entries,
+        grants,
+        froms,
+        tos,
+        ways,
+    );
+    if let Judged::Refused(why) = judged {
+        return Ruling::Refused(why);
+    }
+    if n <= node {
+        return Ruling::Refused(Refusal::Asked);
+    }
+    if kinds[node] != 2 {
+        return Ruling::Refused(Refusal::NotACheck);
+    }
+    Ruling::Given(rule(denied, granted, checks[node], node))
 }

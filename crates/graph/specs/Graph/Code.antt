@@ -1,7 +1,7 @@
 -- What the numbers in the slices say: for the proofs of code above that reads them.
 use Prim.Native.Nat.{ℕ}
 use mathlib.Core.Path.{_≡_, refl}
-use mathlib.Core.Bool.{Bool, cond, _&&_}
+use mathlib.Core.Bool.{true, false, not}
 use lib.Dec.{eqb}
 use lib.ListN.{getD}
 use Rattle.sets.specs.Sets.{has}
@@ -44,3 +44,17 @@ module _ (g : Graph) (e : ℕ) where
   pub isCall-code : isCall g e ≡ eqb (getD (g .ways) e 0) 0
   unfolding isCall way
   isCall-code = refl
+
+-- the verdict's number in each case
+pub verdict-code : (verdictOf false false ≡ 0) × (verdictOf false true ≡ 1) × (verdictOf true false ≡ 2) × (verdictOf true true ≡ 3)
+unfolding verdictOf
+verdict-code = (refl, refl, refl, refl)
+
+-- the denied and granted sets of a node by its call sets
+pub denied-code : (g : Graph) (m : Outs) (n p : ℕ) → deniedSet g m n p ≡ not (callSet g may m n p)
+unfolding deniedSet
+denied-code g m n p = refl
+
+pub granted-code : (g : Graph) (s : Outs) (n p : ℕ) → grantedSet g s n p ≡ callSet g sure s n p
+unfolding grantedSet
+granted-code g s n p = refl

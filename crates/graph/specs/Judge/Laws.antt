@@ -154,3 +154,23 @@ accepted-is (accepted a) = a
 
 pub refused-is : {g : Graph} {r : Refusal} → Judges g (Refused r) → Refuses g (numbered r)
 refused-is (refused f) = f
+
+-- one refusal for a graph, and none for one that is accepted
+module _ (g : Graph) where
+  numbers : {x : Numbered} → Refuses g x → numbered (refusal x) ≡ x
+  numbers (shape _) = refl
+  numbers (node _ _ _) = refl
+  numbers (edge _ _ _ _) = refl
+  numbers (entry _ _ _ _) = refl
+
+  pub refuses-one : {x z : Numbered} → Refuses g x → Refuses g z → x ≡ z
+  refuses-one {x} {z} a b =
+      let p : Refused (refusal x) ≡ Refused (refusal z) = sym (computed g a) ∙ computed g b in
+      let q : refusal x ≡ refusal z = cc in
+      sym (numbers a) ∙ ap numbered q ∙ numbers b
+
+  pub refuses-not : {x : Numbered} → Refuses g x → Acceptable g → ⊥
+  refuses-not {x} a b =
+      let p : Accepted ≡ Refused (refusal x) = judges-judge g (accepted b) ∙ computed g a in
+      let z : _≡_ {A = ℕ} 0 1 = cc in
+      omega arith

@@ -1,99 +1,89 @@
+use Prim.Native.Nat.{_-_}
+use lib.ListN.{getD}
+use native.Mathlib.Omega.{arith}
+use borrow.Author.Needs.{needs}
+use Rattle.solver.specs.Walk.Filled.{Filled, filled-none, filled-more, filled-all}
+use Rattle.solver.specs.Walk.{systemOf, startIns, startPast}
 use Rattle.solver.proofs.begin.Statement.{statement}
 use Rattle.solver.proofs.begin.Tie as tie
-use Rattle.solver.proofs.begin.Reads as reads
-use Rattle.solver.proofs.begin.Lts as lts
-use Rattle.solver.proofs.first_passing.Reads as first-passing-reads
-use Rattle.solver.proofs.first_sum.Reads as first-sum-reads
 
 abbrev Inv-loop : tie.InvT-loop
-Inv-loop ins₀ past₀ sure k n checks entries grants i₀ ins past i = ?
+Inv-loop ins₀ past₀ sure k n checks entries grants i₀ ins past i =
+    Filled (λ j. startIns (systemOf sure) k (getD entries j 0) (getD grants j 0)) n ins₀ ins i
+    × Filled (λ j. startPast (systemOf sure) k (getD entries j 0) (getD grants j 0) (getD checks j 0)) n past₀ past i
 
 abbrev μ-loop : tie.MeasureT-loop
-μ-loop ins₀ past₀ sure k n checks entries grants i₀ ins past i = ?
+μ-loop ins₀ past₀ sure k n checks entries grants i₀ ins past i = n - i
 
--- src/lib.rt:249:5
 loop-holds : tie.Need-loop-holds Inv-loop μ-loop
-loop-holds c = ?
+loop-holds c = (filled-none _ _ _, filled-none _ _ _)
 
--- src/lib.rt:250:37
 shared-slice-read-first-sum : tie.Need-shared-slice-read-first-sum Inv-loop μ-loop
-shared-slice-read-first-sum c = ?
+shared-slice-read-first-sum c = omega arith
 
--- src/lib.rt:250:49
 mul-first-sum : tie.Need-mul-first-sum Inv-loop μ-loop
-mul-first-sum c = ?
+mul-first-sum c = omega arith
 
--- src/lib.rt:250:49
 shared-slice-read-first-sum-2 : tie.Need-shared-slice-read-first-sum-2 Inv-loop μ-loop
-shared-slice-read-first-sum-2 c = ?
+shared-slice-read-first-sum-2 c = omega arith
 
--- src/lib.rt:250:18
 first-sum-requires : tie.Need-first-sum-requires Inv-loop μ-loop
-first-sum-requires c κs = ?
+first-sum-requires c κs = search needs
 
--- src/lib.rt:250:9
 mul-ins : tie.Need-mul-ins Inv-loop μ-loop
-mul-ins c = ?
+mul-ins c = omega arith
 
--- src/lib.rt:250:9
 slice-write-ins : tie.Need-slice-write-ins Inv-loop μ-loop
-slice-write-ins c = ?
+slice-write-ins c = omega arith
 
--- src/lib.rt:251:42
 shared-slice-read-first-passing : tie.Need-shared-slice-read-first-passing Inv-loop μ-loop
-shared-slice-read-first-passing c = ?
+shared-slice-read-first-passing c = omega arith
 
--- src/lib.rt:251:54
 mul-first-passing : tie.Need-mul-first-passing Inv-loop μ-loop
-mul-first-passing c = ?
+mul-first-passing c = omega arith
 
--- src/lib.rt:251:54
 shared-slice-read-first-passing-2 : tie.Need-shared-slice-read-first-passing-2 Inv-loop μ-loop
-shared-slice-read-first-passing-2 c = ?
+shared-slice-read-first-passing-2 c = omega arith
 
--- src/lib.rt:251:65
 mul-first-passing-2 : tie.Need-mul-first-passing-2 Inv-loop μ-loop
-mul-first-passing-2 c = ?
+mul-first-passing-2 c = omega arith
 
--- src/lib.rt:251:65
 shared-slice-read-first-passing-3 : tie.Need-shared-slice-read-first-passing-3 Inv-loop μ-loop
-shared-slice-read-first-passing-3 c = ?
+shared-slice-read-first-passing-3 c = omega arith
 
--- src/lib.rt:251:19
 first-passing-requires : tie.Need-first-passing-requires Inv-loop μ-loop
-first-passing-requires c κs = ?
+first-passing-requires c κs = search needs
 
--- src/lib.rt:251:9
 mul-past : tie.Need-mul-past Inv-loop μ-loop
-mul-past c = ?
+mul-past c = omega arith
 
--- src/lib.rt:251:9
 slice-write-past : tie.Need-slice-write-past Inv-loop μ-loop
-slice-write-past c = ?
+slice-write-past c = omega arith
 
--- src/lib.rt:252:9
 add-i : tie.Need-add-i Inv-loop μ-loop
-add-i c = ?
+add-i c = omega arith
 
--- src/lib.rt:249:5
 loop-less : tie.Need-loop-less Inv-loop μ-loop
-loop-less c = ?
+loop-less c = omega arith
 
--- src/lib.rt:249:5
 loop-again : tie.Need-loop-again Inv-loop μ-loop
-loop-again c = ?
+loop-again c =
+    let at = c .before .before .before .before .before .before .before .before .loop in
+    let more = c .before .before .before .before .before .before .before .loop-test .taken in (
+      filled-more _ _ _ _ _ _ more (omega arith) (c .before .before .before .before .first-sum .ensures) (at .inv .0),
+      filled-more _ _ _ _ _ _ more (omega arith) (c .first-passing .ensures) (at .inv .1),
+    )
 
--- src/lib.rt:235:1
 same-length : tie.Need-same-length Inv-loop μ-loop
-same-length c = ?
+same-length c = omega arith
 
--- src/lib.rt:235:1
 same-length-2 : tie.Need-same-length-2 Inv-loop μ-loop
-same-length-2 c = ?
+same-length-2 c = omega arith
 
--- src/lib.rt:235:1
 returns : tie.Need-returns Inv-loop μ-loop
-returns c = ?
+returns c =
+    let at = c .before .loop in
+    record { ins = filled-all _ _ _ _ _ (omega arith) (at .inv .0); past = filled-all _ _ _ _ _ (omega arith) (at .inv .1) }
 
 pub begin-spec : {M : Type 1} → statement M
 begin-spec =

@@ -1,21 +1,17 @@
+-- `solver::counts` meets its contract. Assumes nothing.
 use borrow.Author.Needs.{needs}
+use borrow.Author.Tests.{eq-eqb, ne-eqb}
 use Rattle.solver.proofs.counts.Statement.{statement}
 use Rattle.solver.proofs.counts.Tie as tie
-use Rattle.solver.proofs.counts.Reads as reads
-use Rattle.solver.proofs.counts.Lts as lts
-use Rattle.sets.proofs.Set.has.Reads as has-reads
 
--- src/lib.rt:91:9
 returns : tie.Need-returns
-returns c = ?
+returns c = rw (ne-eqb _ 2 (c .if1 .taken))
 
--- src/lib.rt:93:5
 has-requires : tie.Need-has-requires
 has-requires c κs = search needs
 
--- src/lib.rt:87:1
 returns-2 : tie.Need-returns-2
-returns-2 c = ?
+returns-2 c = rw (eq-eqb _ 2 (c .before .if1 .left)) (c .has .ensures)
 
 pub counts-spec : {M : Type 1} → statement M
 counts-spec = tie.close (tie.spec returns has-requires returns-2)

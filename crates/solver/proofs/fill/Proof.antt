@@ -1,49 +1,42 @@
+use Prim.Native.Nat.{_-_}
+use mathlib.Core.Path.{refl}
+use native.Mathlib.Omega.{arith}
+use Rattle.solver.specs.Walk.Filled.{Filled, filled-none, filled-more, filled-all}
 use Rattle.solver.proofs.fill.Statement.{statement}
 use Rattle.solver.proofs.fill.Tie as tie
-use Rattle.solver.proofs.fill.Reads as reads
-use Rattle.solver.proofs.fill.Lts as lts
 
 abbrev Inv-loop : tie.InvT-loop
-Inv-loop stack₀ n i₀ stack i = ?
+Inv-loop stack₀ n i₀ stack i = Filled (λ j. j) n stack₀ stack i
 
 abbrev μ-loop : tie.MeasureT-loop
-μ-loop stack₀ n i₀ stack i = ?
+μ-loop stack₀ n i₀ stack i = n - i
 
--- src/lib.rt:207:5
 loop-holds : tie.Need-loop-holds Inv-loop μ-loop
-loop-holds c = ?
+loop-holds c = filled-none _ _ _
 
--- src/lib.rt:208:20
 cast-stack : tie.Need-cast-stack Inv-loop μ-loop
-cast-stack c = ?
+cast-stack c = omega arith
 
--- src/lib.rt:208:9
 mul-stack : tie.Need-mul-stack Inv-loop μ-loop
-mul-stack c = ?
+mul-stack c = omega arith
 
--- src/lib.rt:208:9
 slice-write-stack : tie.Need-slice-write-stack Inv-loop μ-loop
-slice-write-stack c = ?
+slice-write-stack c = omega arith
 
--- src/lib.rt:209:9
 add-i : tie.Need-add-i Inv-loop μ-loop
-add-i c = ?
+add-i c = omega arith
 
--- src/lib.rt:207:5
 loop-less : tie.Need-loop-less Inv-loop μ-loop
-loop-less c = ?
+loop-less c = omega arith
 
--- src/lib.rt:207:5
 loop-again : tie.Need-loop-again Inv-loop μ-loop
-loop-again c = ?
+loop-again c = filled-more _ _ _ _ _ _ (c .loop-test .taken) (omega arith) refl (c .before .loop .inv)
 
--- src/lib.rt:202:1
 same-length : tie.Need-same-length Inv-loop μ-loop
-same-length c = ?
+same-length c = omega arith
 
--- src/lib.rt:202:1
 returns : tie.Need-returns Inv-loop μ-loop
-returns c = ?
+returns c = filled-all _ _ _ _ _ (omega arith) (c .before .loop .inv)
 
 pub fill-spec : {M : Type 1} → statement M
 fill-spec =

@@ -1,85 +1,84 @@
+use Prim.Native.Nat.{_-_, _≤_, _<_}
+use mathlib.Core.Path.{_≡_, refl}
+use native.Mathlib.Omega.{arith}
+use lib.ListN.{length, getD, length-set}
+use Rattle.solver.specs.Walk.{Linked}
+use Rattle.solver.specs.Walk.Links.{link-none, link-step}
 use Rattle.solver.proofs.link.Statement.{statement}
 use Rattle.solver.proofs.link.Tie as tie
-use Rattle.solver.proofs.link.Reads as reads
-use Rattle.solver.proofs.link.Lts as lts
 
 abbrev Inv-loop : tie.InvT-loop
-Inv-loop head₀ prev₀ n m froms e₀ head prev e = ?
+Inv-loop head₀ prev₀ n m froms e₀ head prev e =
+    (e ≤ m) × (length head ≡ length head₀) × (length prev ≡ length prev₀) × Linked froms n head prev e
 
 abbrev μ-loop : tie.MeasureT-loop
-μ-loop head₀ prev₀ n m froms e₀ head prev e = ?
+μ-loop head₀ prev₀ n m froms e₀ head prev e = m - e
 
--- src/lib.rt:193:5
+-- the edge's from node is one of the nodes
+from-below : (c : tie.In-loop Inv-loop μ-loop) → getD (c .before .before .args .froms .now) (c .before .loop .e) 0 < c .before .before .args .n
+from-below c = c .before .before .pre .1 .0 (c .before .loop .e) (c .loop-test .taken)
+
 loop-holds : tie.Need-loop-holds Inv-loop μ-loop
-loop-holds c = ?
+loop-holds c = (omega arith, refl, refl, link-none _ _ _ _ (c .pre .1 .1))
 
--- src/lib.rt:194:17
 mul-i : tie.Need-mul-i Inv-loop μ-loop
-mul-i c = ?
+mul-i c = omega arith
 
--- src/lib.rt:194:17
 shared-slice-read-i : tie.Need-shared-slice-read-i Inv-loop μ-loop
-shared-slice-read-i c = ?
+shared-slice-read-i c = omega arith
 
--- src/lib.rt:194:17
 cast-i : tie.Need-cast-i Inv-loop μ-loop
-cast-i c = ?
+cast-i c = omega (arith, from-below (c .before))
 
--- src/lib.rt:195:19
 mul-prev : tie.Need-mul-prev Inv-loop μ-loop
-mul-prev c = ?
+mul-prev c = omega (arith, from-below (c .before))
 
--- src/lib.rt:195:19
 slice-read-prev : tie.Need-slice-read-prev Inv-loop μ-loop
-slice-read-prev c = ?
+slice-read-prev c = omega (arith, from-below (c .before .before))
 
--- src/lib.rt:195:9
 mul-prev-2 : tie.Need-mul-prev-2 Inv-loop μ-loop
-mul-prev-2 c = ?
+mul-prev-2 c = omega arith
 
--- src/lib.rt:195:9
 slice-write-prev : tie.Need-slice-write-prev Inv-loop μ-loop
-slice-write-prev c = ?
+slice-write-prev c = omega arith
 
--- src/lib.rt:196:20
 add-head : tie.Need-add-head Inv-loop μ-loop
-add-head c = ?
+add-head c = omega arith
 
--- src/lib.rt:196:19
 cast-head : tie.Need-cast-head Inv-loop μ-loop
-cast-head c = ?
+cast-head c = omega arith
 
--- src/lib.rt:196:9
 mul-head : tie.Need-mul-head Inv-loop μ-loop
-mul-head c = ?
+mul-head c = omega (arith, from-below (c .before .before))
 
--- src/lib.rt:196:9
 slice-write-head : tie.Need-slice-write-head Inv-loop μ-loop
-slice-write-head c = ?
+slice-write-head c = omega (arith, from-below (c .before .before))
 
--- src/lib.rt:197:9
 add-e : tie.Need-add-e Inv-loop μ-loop
-add-e c = ?
+add-e c = omega arith
 
--- src/lib.rt:193:5
 loop-less : tie.Need-loop-less Inv-loop μ-loop
-loop-less c = ?
+loop-less c = omega arith
 
--- src/lib.rt:193:5
 loop-again : tie.Need-loop-again Inv-loop μ-loop
-loop-again c = ?
+loop-again c =
+    let at = c .before .before .before .loop in (
+      omega arith,
+      simp length-set (at .inv .1),
+      simp length-set (at .inv .2),
+      link-step _ _ _ _ _ (omega arith) (omega arith) (from-below (c .before .before)) (at .inv .3),
+    )
 
--- src/lib.rt:186:1
 same-length : tie.Need-same-length Inv-loop μ-loop
-same-length c = ?
+same-length c = omega arith
 
--- src/lib.rt:186:1
 same-length-2 : tie.Need-same-length-2 Inv-loop μ-loop
-same-length-2 c = ?
+same-length-2 c = omega arith
 
--- src/lib.rt:186:1
 returns : tie.Need-returns Inv-loop μ-loop
-returns c = ?
+returns c =
+    let e : c .before .loop .e ≡ c .before .before .args .m = omega arith in
+    rw (← e) (c .before .loop .inv .3)
 
 pub link-spec : {M : Type 1} → statement M
 link-spec =

@@ -1,56 +1,45 @@
+-- `solver::put` meets its contract. Assumes nothing.
+use borrow.Author.Tests.{not-true, not-false}
+use Rattle.solver.specs.Walk.Sent.{unchanged, marked, full, stacked}
 use borrow.Author.Needs.{needs}
 use Rattle.solver.proofs.put.Statement.{statement}
 use Rattle.solver.proofs.put.Tie as tie
-use Rattle.solver.proofs.put.Reads as reads
-use Rattle.solver.proofs.put.Lts as lts
 
--- src/lib.rt:133:9
 returns : tie.Need-returns
-returns c = ?
+returns c = unchanged _ _ _ _ _ (not-true (c .before .args .changed) (c .if1 .taken))
 
--- src/lib.rt:135:8
 slice-read-if2 : tie.Need-slice-read-if2
 slice-read-if2 c = search needs
 
--- src/lib.rt:136:9
 returns-2 : tie.Need-returns-2
-returns-2 c = ?
+returns-2 c = marked _ _ _ _ _ (not-false (c .before .before .before .args .changed) (c .before .before .if1 .left)) (c .if2 .taken)
 
--- src/lib.rt:139:9
 returns-3 : tie.Need-returns-3
-returns-3 c = ?
+returns-3 c = full _ _ _ _ _ (not-false (c .before .before .before .before .args .changed) (c .before .before .before .if1 .left)) (c .before .if2 .left) (c .if3 .taken)
 
--- src/lib.rt:141:5
 slice-write-marks : tie.Need-slice-write-marks
 slice-write-marks c = search needs
 
--- src/lib.rt:142:18
 cast-stack : tie.Need-cast-stack
 cast-stack c = search needs
 
--- src/lib.rt:142:5
 mul-stack : tie.Need-mul-stack
 mul-stack c = search needs
 
--- src/lib.rt:142:5
 slice-write-stack : tie.Need-slice-write-stack
 slice-write-stack c = search needs
 
--- src/lib.rt:143:5
 add-result : tie.Need-add-result
 add-result c = search needs
 
--- src/lib.rt:128:1
 same-length : tie.Need-same-length
 same-length c = search needs
 
--- src/lib.rt:128:1
 same-length-2 : tie.Need-same-length-2
 same-length-2 c = search needs
 
--- src/lib.rt:128:1
 returns-4 : tie.Need-returns-4
-returns-4 c = ?
+returns-4 c = stacked _ _ _ _ _ (not-false (c .before .before .before .before .args .changed) (c .before .before .before .if1 .left)) (c .before .if2 .left) (c .if3 .left)
 
 pub put-spec : {M : Type 1} → statement M
 put-spec =

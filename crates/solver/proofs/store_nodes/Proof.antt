@@ -1,116 +1,100 @@
+use Prim.Native.Nat.{_-_}
+use native.Mathlib.Omega.{arith}
+use borrow.Author.Needs.{needs}
+use Rattle.solver.specs.Walk.Filled.{Filled, filled-none, filled-more, filled-all}
+use Rattle.sets.specs.Sets.{all, without}
+use Rattle.solver.specs.Walk.{calledBy}
 use Rattle.solver.proofs.store_nodes.Statement.{statement}
 use Rattle.solver.proofs.store_nodes.Tie as tie
-use Rattle.solver.proofs.store_nodes.Reads as reads
-use Rattle.solver.proofs.store_nodes.Lts as lts
-use Rattle.sets.proofs.Set.all.Reads as all-reads
-use Rattle.sets.proofs.Set.without.Reads as without-reads
-use Rattle.solver.proofs.called.Reads as called-reads
 
 abbrev Inv-loop : tie.InvT-loop
-Inv-loop denied₀ granted₀ k n privileged grants may-ins sure-ins i₀ denied granted i = ?
+Inv-loop denied₀ granted₀ k n privileged grants may-ins sure-ins i₀ denied granted i =
+    Filled (λ j. without (all k) (calledBy privileged grants may-ins j)) n denied₀ denied i
+    × Filled (calledBy privileged grants sure-ins) n granted₀ granted i
 
 abbrev μ-loop : tie.MeasureT-loop
-μ-loop denied₀ granted₀ k n privileged grants may-ins sure-ins i₀ denied granted i = ?
+μ-loop denied₀ granted₀ k n privileged grants may-ins sure-ins i₀ denied granted i = n - i
 
--- src/lib.rt:322:5
 loop-holds : tie.Need-loop-holds Inv-loop μ-loop
-loop-holds c = ?
+loop-holds c = (filled-none _ _ _, filled-none _ _ _)
 
--- src/lib.rt:324:26
 shared-slice-read-called : tie.Need-shared-slice-read-called Inv-loop μ-loop
-shared-slice-read-called c = ?
+shared-slice-read-called c = omega arith
 
--- src/lib.rt:324:41
 mul-called : tie.Need-mul-called Inv-loop μ-loop
-mul-called c = ?
+mul-called c = omega arith
 
--- src/lib.rt:324:41
 shared-slice-read-called-2 : tie.Need-shared-slice-read-called-2 Inv-loop μ-loop
-shared-slice-read-called-2 c = ?
+shared-slice-read-called-2 c = omega arith
 
--- src/lib.rt:324:52
 mul-called-2 : tie.Need-mul-called-2 Inv-loop μ-loop
-mul-called-2 c = ?
+mul-called-2 c = omega arith
 
--- src/lib.rt:324:52
 shared-slice-read-called-3 : tie.Need-shared-slice-read-called-3 Inv-loop μ-loop
-shared-slice-read-called-3 c = ?
+shared-slice-read-called-3 c = omega arith
 
--- src/lib.rt:324:19
 called-requires : tie.Need-called-requires Inv-loop μ-loop
-called-requires c κs = ?
+called-requires c κs = search needs
 
--- src/lib.rt:326:21
 all-requires : tie.Need-all-requires Inv-loop μ-loop
-all-requires c κs = ?
+all-requires c κs = search needs
 
--- src/lib.rt:326:21
 without-requires : tie.Need-without-requires Inv-loop μ-loop
-without-requires c κs = ?
+without-requires c κs = search needs
 
--- src/lib.rt:326:9
 mul-denied : tie.Need-mul-denied Inv-loop μ-loop
-mul-denied c = ?
+mul-denied c = omega arith
 
--- src/lib.rt:326:9
 slice-write-denied : tie.Need-slice-write-denied Inv-loop μ-loop
-slice-write-denied c = ?
+slice-write-denied c = omega arith
 
--- src/lib.rt:327:29
 shared-slice-read-called-4 : tie.Need-shared-slice-read-called-4 Inv-loop μ-loop
-shared-slice-read-called-4 c = ?
+shared-slice-read-called-4 c = omega arith
 
--- src/lib.rt:327:44
 mul-called-3 : tie.Need-mul-called-3 Inv-loop μ-loop
-mul-called-3 c = ?
+mul-called-3 c = omega arith
 
--- src/lib.rt:327:44
 shared-slice-read-called-5 : tie.Need-shared-slice-read-called-5 Inv-loop μ-loop
-shared-slice-read-called-5 c = ?
+shared-slice-read-called-5 c = omega arith
 
--- src/lib.rt:327:55
 mul-called-4 : tie.Need-mul-called-4 Inv-loop μ-loop
-mul-called-4 c = ?
+mul-called-4 c = omega arith
 
--- src/lib.rt:327:55
 shared-slice-read-called-6 : tie.Need-shared-slice-read-called-6 Inv-loop μ-loop
-shared-slice-read-called-6 c = ?
+shared-slice-read-called-6 c = omega arith
 
--- src/lib.rt:327:22
 called-requires-2 : tie.Need-called-requires-2 Inv-loop μ-loop
-called-requires-2 c κs = ?
+called-requires-2 c κs = search needs
 
--- src/lib.rt:327:9
 mul-granted : tie.Need-mul-granted Inv-loop μ-loop
-mul-granted c = ?
+mul-granted c = omega arith
 
--- src/lib.rt:327:9
 slice-write-granted : tie.Need-slice-write-granted Inv-loop μ-loop
-slice-write-granted c = ?
+slice-write-granted c = omega arith
 
--- src/lib.rt:328:9
 add-i : tie.Need-add-i Inv-loop μ-loop
-add-i c = ?
+add-i c = omega arith
 
--- src/lib.rt:322:5
 loop-less : tie.Need-loop-less Inv-loop μ-loop
-loop-less c = ?
+loop-less c = omega arith
 
--- src/lib.rt:322:5
 loop-again : tie.Need-loop-again Inv-loop μ-loop
-loop-again c = ?
+loop-again c =
+    let at = c .before .before .before .before .before .before .before .before .before .before .before .loop in
+    let more = c .before .before .before .before .before .before .before .before .before .before .loop-test .taken in
+    let denied = rw (c .before .before .before .before .before .all .ensures, c .before .before .before .before .before .before .called .ensures) at (c .before .before .before .before .without .ensures) in
+    (filled-more _ _ _ _ _ _ more (omega arith) denied (at .inv .0), filled-more _ _ _ _ _ _ more (omega arith) (c .called2 .ensures) (at .inv .1))
 
--- src/lib.rt:308:1
 same-length : tie.Need-same-length Inv-loop μ-loop
-same-length c = ?
+same-length c = omega arith
 
--- src/lib.rt:308:1
 same-length-2 : tie.Need-same-length-2 Inv-loop μ-loop
-same-length-2 c = ?
+same-length-2 c = omega arith
 
--- src/lib.rt:308:1
 returns : tie.Need-returns Inv-loop μ-loop
-returns c = ?
+returns c =
+    let at = c .before .loop in
+    record { denies = filled-all _ _ _ _ _ (omega arith) (at .inv .0); grants-set = filled-all _ _ _ _ _ (omega arith) (at .inv .1) }
 
 pub store-nodes-spec : {M : Type 1} → statement M
 store-nodes-spec =

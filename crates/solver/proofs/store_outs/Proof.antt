@@ -1,116 +1,103 @@
+use Prim.Native.Nat.{_-_, _<_}
+use lib.ListN.{getD}
+use native.Mathlib.Omega.{arith}
+use borrow.Author.Needs.{needs}
+use Rattle.solver.specs.Walk.Filled.{Filled, filled-none, filled-more, filled-all}
+use Rattle.solver.specs.Walk.{systemOf, carriedBy}
 use Rattle.solver.proofs.store_outs.Statement.{statement}
 use Rattle.solver.proofs.store_outs.Tie as tie
-use Rattle.solver.proofs.store_outs.Reads as reads
-use Rattle.solver.proofs.store_outs.Lts as lts
-use Rattle.solver.proofs.called.Reads as called-reads
-use Rattle.solver.proofs.carry.Reads as carry-reads
-use Rattle.solver.proofs.trans_at.Reads as trans-at-reads
 
 abbrev Inv-loop : tie.InvT-loop
-Inv-loop out₀ sure n m kinds checks privileged grants froms tos ways any ins past e₀ out e = ?
+Inv-loop out₀ sure n m kinds checks privileged grants froms tos ways any ins past e₀ out e =
+    Filled (carriedBy kinds checks privileged grants froms tos ways (systemOf sure) any ins past) m out₀ out e
 
 abbrev μ-loop : tie.MeasureT-loop
-μ-loop out₀ sure n m kinds checks privileged grants froms tos ways any ins past e₀ out e = ?
+μ-loop out₀ sure n m kinds checks privileged grants froms tos ways any ins past e₀ out e = m - e
 
--- src/lib.rt:297:5
+-- the edge's ends are nodes
+starts : (c : tie.In-loop Inv-loop μ-loop) → let a = c .before .before .before .before .before .before .before .before .before .before .before .before .before .args in getD (a .froms .now) (c .before .loop .e) 0 < a .n
+starts c = c .before .before .before .before .before .before .before .before .before .before .before .before .before .pre .starts _ (c .loop-test .taken)
+
+ends : (c : tie.In-loop Inv-loop μ-loop) → let a = c .before .before .before .before .before .before .before .before .before .before .before .before .before .args in getD (a .tos .now) (c .before .loop .e) 0 < a .n
+ends c = c .before .before .before .before .before .before .before .before .before .before .before .before .before .pre .ends _ (c .loop-test .taken)
+
 loop-holds : tie.Need-loop-holds Inv-loop μ-loop
-loop-holds c = ?
+loop-holds c = filled-none _ _ _
 
--- src/lib.rt:298:17
 mul-a : tie.Need-mul-a Inv-loop μ-loop
-mul-a c = ?
+mul-a c = omega arith
 
--- src/lib.rt:298:17
 shared-slice-read-a : tie.Need-shared-slice-read-a Inv-loop μ-loop
-shared-slice-read-a c = ?
+shared-slice-read-a c = omega arith
 
--- src/lib.rt:298:17
 cast-a : tie.Need-cast-a Inv-loop μ-loop
-cast-a c = ?
+cast-a c = omega (arith, starts (c .before))
 
--- src/lib.rt:299:17
 mul-b : tie.Need-mul-b Inv-loop μ-loop
-mul-b c = ?
+mul-b c = omega arith
 
--- src/lib.rt:299:17
 shared-slice-read-b : tie.Need-shared-slice-read-b Inv-loop μ-loop
-shared-slice-read-b c = ?
+shared-slice-read-b c = omega arith
 
--- src/lib.rt:299:17
 cast-b : tie.Need-cast-b Inv-loop μ-loop
-cast-b c = ?
+cast-b c = omega (arith, ends (c .before .before))
 
--- src/lib.rt:300:27
 shared-slice-read-called : tie.Need-shared-slice-read-called Inv-loop μ-loop
-shared-slice-read-called c = ?
+shared-slice-read-called c = omega (arith, starts (c .before .before .before))
 
--- src/lib.rt:300:42
 mul-called : tie.Need-mul-called Inv-loop μ-loop
-mul-called c = ?
+mul-called c = omega (arith, starts (c .before .before .before))
 
--- src/lib.rt:300:42
 shared-slice-read-called-2 : tie.Need-shared-slice-read-called-2 Inv-loop μ-loop
-shared-slice-read-called-2 c = ?
+shared-slice-read-called-2 c = omega (arith, starts (c .before .before .before .before))
 
--- src/lib.rt:300:53
 mul-called-2 : tie.Need-mul-called-2 Inv-loop μ-loop
-mul-called-2 c = ?
+mul-called-2 c = omega (arith, starts (c .before .before .before .before))
 
--- src/lib.rt:300:53
 shared-slice-read-called-3 : tie.Need-shared-slice-read-called-3 Inv-loop μ-loop
-shared-slice-read-called-3 c = ?
+shared-slice-read-called-3 c = omega (arith, starts (c .before .before .before .before .before))
 
--- src/lib.rt:300:13
 called-requires : tie.Need-called-requires Inv-loop μ-loop
-called-requires c κs = ?
+called-requires c κs = search needs
 
--- src/lib.rt:301:13
 trans-at-requires : tie.Need-trans-at-requires Inv-loop μ-loop
-trans-at-requires c κs = ?
+trans-at-requires c κs = omega (arith, starts (c .before .before .before .before .before .before))
 
--- src/lib.rt:302:24
 shared-slice-read-carry : tie.Need-shared-slice-read-carry Inv-loop μ-loop
-shared-slice-read-carry c = ?
+shared-slice-read-carry c = omega arith
 
--- src/lib.rt:302:46
 mul-carry : tie.Need-mul-carry Inv-loop μ-loop
-mul-carry c = ?
+mul-carry c = omega (arith, ends (c .before .before .before .before .before .before .before .before))
 
--- src/lib.rt:302:46
 shared-slice-read-carry-2 : tie.Need-shared-slice-read-carry-2 Inv-loop μ-loop
-shared-slice-read-carry-2 c = ?
+shared-slice-read-carry-2 c = omega (arith, ends (c .before .before .before .before .before .before .before .before .before))
 
--- src/lib.rt:302:18
 carry-requires : tie.Need-carry-requires Inv-loop μ-loop
-carry-requires c κs = ?
+carry-requires c κs = search needs
 
--- src/lib.rt:302:9
 mul-out : tie.Need-mul-out Inv-loop μ-loop
-mul-out c = ?
+mul-out c = omega arith
 
--- src/lib.rt:302:9
 slice-write-out : tie.Need-slice-write-out Inv-loop μ-loop
-slice-write-out c = ?
+slice-write-out c = omega arith
 
--- src/lib.rt:303:9
 add-e : tie.Need-add-e Inv-loop μ-loop
-add-e c = ?
+add-e c = omega arith
 
--- src/lib.rt:297:5
 loop-less : tie.Need-loop-less Inv-loop μ-loop
-loop-less c = ?
+loop-less c = omega arith
 
--- src/lib.rt:297:5
 loop-again : tie.Need-loop-again Inv-loop μ-loop
-loop-again c = ?
+loop-again c =
+    let more = c .before .before .before .before .before .before .before .before .before .before .loop-test .taken in
+    let carried = rw (c .before .before .before .before .called .ensures, c .before .before .before .trans-at .ensures) at (c .carry .ensures) in
+    filled-more _ _ _ _ _ _ more (omega arith) carried (c .before .before .before .before .before .before .before .before .before .before .before .loop .inv)
 
--- src/lib.rt:277:1
 same-length : tie.Need-same-length Inv-loop μ-loop
-same-length c = ?
+same-length c = omega arith
 
--- src/lib.rt:277:1
 returns : tie.Need-returns Inv-loop μ-loop
-returns c = ?
+returns c = filled-all _ _ _ _ _ (omega arith) (c .before .loop .inv)
 
 pub store-outs-spec : {M : Type 1} → statement M
 store-outs-spec =

@@ -1,62 +1,83 @@
+use Rattle.solver.specs.Solve.{refused, given, sets, graph, asked, no-check}
+use Rattle.graph.specs.Judge.Laws.{accepted-is, refused-is}
+use Rattle.graph.specs.Graph.Code.{isCheck-code, check-code}
+use Rattle.truth.specs.Truth.Tests.{says-true, says-false}
+use borrow.Author.Tests.{eq-eqb, ne-eqb, not-true, not-false}
+use native.Mathlib.Omega.{arith}
+use mathlib.Core.Path.{_∙_}
 use borrow.Author.Needs.{needs}
 use Rattle.solver.proofs.verdict.Statement.{statement}
 use Rattle.solver.proofs.verdict.Tie as tie
-use Rattle.solver.proofs.verdict.Reads as reads
-use Rattle.solver.proofs.verdict.Lts as lts
-use Rattle.graph.proofs.check.Reads as check-reads
-use Rattle.solver.proofs.rule.Reads as rule-reads
-use Rattle.solver.proofs.sets_long.Reads as sets-long-reads
 
--- src/lib.rt:702:9
 sets-long-requires : tie.Need-sets-long-requires
 sets-long-requires c κs = search needs
 
--- src/lib.rt:703:9
 returns : tie.Need-returns
-returns c = ?
+returns c = refused (sets (says-false (c .before .sets-long .ensures) (not-true _ (c .if1 .taken))))
 
--- src/lib.rt:705:9
 check-requires : tie.Need-check-requires
 check-requires c κs = search needs
 
--- src/lib.rt:718:28
 enum-known-judged : tie.Need-enum-known-judged
 enum-known-judged c = search needs
 
--- src/lib.rt:719:9
 returns-2 : tie.Need-returns-2
-returns-2 c = ?
+returns-2 c =
+    refused
+    (graph
+    (says-true (c .before .before .before .before .before .sets-long .ensures) (not-false _ (c .before .before .before .before .if1 .left)))
+    (refused-is (rw (c .before .judged .given .1) at (c .before .before .before .check .ensures))))
 
 enum-told : tie.Need-enum-told
 enum-told c = search needs
 
--- src/lib.rt:722:9
 returns-3 : tie.Need-returns-3
-returns-3 c = ?
+returns-3 c =
+    refused
+    (asked
+    (says-true (c .before .before .before .before .before .sets-long .ensures) (not-false _ (c .before .before .before .before .if1 .left)))
+    (accepted-is (rw (c .before .enum-told .given .1) at (c .before .before .before .check .ensures)))
+    (λ h. omega arith))
 
--- src/lib.rt:724:8
 shared-slice-read-if3 : tie.Need-shared-slice-read-if3
-shared-slice-read-if3 c = ?
+shared-slice-read-if3 c =
+    let a = accepted-is (rw (c .before .before .enum-told .given .1) at (c .before .before .before .before .check .ensures)) in
+    omega (arith, a .shape .nodes .kinds-long)
 
--- src/lib.rt:725:9
 returns-4 : tie.Need-returns-4
-returns-4 c = ?
+returns-4 c =
+    refused
+    (no-check
+    (says-true (c .before .before .before .before .before .before .before .sets-long .ensures) (not-false _ (c .before .before .before .before .before .before .if1 .left)))
+    (accepted-is (rw (c .before .before .before .enum-told .given .1) at (c .before .before .before .before .before .check .ensures)))
+    (omega arith)
+    (isCheck-code _ _ 0 ∙ ne-eqb _ 2 (c .if3 .taken)))
 
--- src/lib.rt:727:41
 mul-rule : tie.Need-mul-rule
-mul-rule c = ?
+mul-rule c =
+    let a = accepted-is (rw (c .before .before .before .enum-told .given .1) at (c .before .before .before .before .before .check .ensures)) in
+    omega (arith, a .shape .ranges .n-high)
 
--- src/lib.rt:727:41
 shared-slice-read-rule : tie.Need-shared-slice-read-rule
-shared-slice-read-rule c = ?
+shared-slice-read-rule c =
+    let a = accepted-is (rw (c .before .before .before .before .enum-told .given .1) at (c .before .before .before .before .before .before .check .ensures)) in
+    omega (arith, a .shape .nodes .checks-long)
 
--- src/lib.rt:727:19
 rule-requires : tie.Need-rule-requires
-rule-requires c κs = ?
+rule-requires c κs =
+    let s = says-true (c .before .before .before .before .before .before .before .before .sets-long .ensures) (not-false _ (c .before .before .before .before .before .before .before .if1 .left)) in
+    search needs
 
--- src/lib.rt:684:1
 returns-5 : tie.Need-returns-5
-returns-5 c = ?
+returns-5 c =
+    given {v = c .rule .result}
+    (record {
+      long = says-true (c .before .before .before .before .before .before .before .before .before .sets-long .ensures) (not-false _ (c .before .before .before .before .before .before .before .before .if1 .left));
+      acceptable = accepted-is (rw (c .before .before .before .before .before .enum-told .given .1) at (c .before .before .before .before .before .before .before .check .ensures));
+      below = omega arith;
+      at-check = isCheck-code _ _ 0 ∙ eq-eqb _ 2 (c .before .before .if3 .left);
+      number = rw (check-code _ _ 0) (c .rule .ensures);
+    })
 
 pub verdict-spec : {M : Type 1} → statement M
 verdict-spec =

@@ -1,5 +1,5 @@
 -- A node is taken up and all its edges are told: what that keeps of the walk, and that less is left to do.
-use mathlib.Core.Path.{_≡_, refl, sym, ap, _∙_}
+use mathlib.Core.Path.{_≡_, refl, sym, ap, ap₂, _∙_}
 use mathlib.Core.List.{List}
 use mathlib.Core.Bool.{Bool, true, false, cond}
 use Prim.Native.Nat.{ℕ, zero, suc, _+_, _≤_, _<_, _^_}
@@ -16,7 +16,7 @@ use Rattle.sets.specs.Sets.Order.{empty-lt, common-lt, add-lt}
 use Rattle.graph.specs.Graph.{Graph, Acceptable, System, may, sure}
 use Rattle.graph.specs.Graph.Rules.{from-low}
 use Rattle.graph.specs.Graph.Code.{from-code}
-use Rattle.solver.specs.Walk.{callNum, pastNum, transNum, edgeNum, calledBy, movedBy, carried, fromOf, toOf, State, state, sendFrom, last, Linked, Begun, Setting, Good, Quiet, toDo, Walking, Sending}
+use Rattle.solver.specs.Walk.{callNum, pastNum, transNum, edgeNum, calledBy, movedBy, carried, fromOf, toOf, State, state, sendFrom, last, Linked, Sendable, Begun, Setting, Good, Quiet, toDo, Walking, Sending}
 use Rattle.solver.specs.Walk.Links.{last-upper, last-own, last-le}
 use Rattle.solver.specs.Walk.Stack.{take-stacked, none-stacked, all-stacked, zeros-none}
 use Rattle.solver.specs.Walk.Sums.{begun-good}
@@ -126,15 +126,45 @@ module _ (g : Graph) (y : System) (w a head prev : List ℕ) (setting : Setting 
         tell x₀ n (h .pending .good) (getD head n 0) (getD head n 0) x₀ (omega arith)
         (λ e q. last-own (g .froms) n (g .m) e (sym first ∙ q)) taken-sending
 
-    pub taken : Walking g y w a x₁
+    taken : Walking g y w a x₁
     taken = record {
       pending = record { good = told-all .good; quiet = λ e l o. told-all .quiet e l o (λ _. omega arith) };
       stacked = told-all .stacked;
       sized = told-all .sized;
     }
 
-    pub taken-less : toDo y x₁ < toDo y x
+    taken-less : toDo y x₁ < toDo y x
     taken-less = omega (arith, told-all .falls, top)
+
+    -- what the code of a turn reads, and what it leaves
+    pub node-reads : (n < length (g .kinds)) × (n < length (g .checks)) × (n < length (g .privileged)) × (n < length (g .grants))
+    node-reads = let s = setting .acc .shape .nodes in omega (arith, top-low)
+
+    pub first-low : getD head n 0 ≤ length (g .tos)
+    first-low = omega (arith, first, last-le (g .froms) n (g .m), setting .acc .shape .edges .tos-long)
+
+    pub sendable : g .m ≤ length w → g .m ≤ length prev → Sendable (g .kinds) (g .checks) (g .grants) (g .tos) (g .ways) y w prev (x .ins) (x .past) (set (x .marks) n 0)
+    sendable lw lp =
+        let s = setting .acc .shape .nodes in
+        let e = setting .acc .shape .edges in
+        record {
+          checks-long = omega arith;
+          grants-long = omega arith;
+          ways-long = omega arith;
+          wide-long = omega arith;
+          prev-long = omega arith;
+          ins-long = omega (arith, h .sized .ins-long);
+          past-long = omega (arith, h .sized .past-long);
+          marks-long = rw (length-set (x .marks) n 0) (omega (arith, h .sized .marks-long));
+          ends = λ d l. omega (arith, (setting .acc .edges d (omega arith)) .to-node);
+          down = λ d l. omega (arith, links .prevs d (omega arith), last-le (g .froms) (fromOf g d) d);
+        }
+
+    pub turn : (c r : ℕ) → c ≡ calledBy (g .privileged) (g .grants) (x .ins) n → r ≡ movedBy (g .kinds) (g .checks) (g .privileged) (g .grants) y a (x .ins) (x .past) n
+        → (x′ : State) → x′ ≡ sendFrom (g .kinds) (g .checks) (g .grants) (g .tos) (g .ways) y w prev c r (getD head n 0) (getD head n 0) x₀ → Walking g y w a x′ × (toDo y x′ < toDo y x)
+    turn c r p q x′ e =
+        let i : x′ ≡ x₁ = e ∙ ap₂ (λ (u v : ℕ). sendFrom (g .kinds) (g .checks) (g .grants) (g .tos) (g .ways) y w prev u v (getD head n 0) (getD head n 0) x₀) p q in
+        (rw i taken, rw i taken-less)
 
   -- an empty stack: every edge is quiet
   pub rested : (x : State) → x .top ≡ 0 → Walking g y w a x → (e : ℕ) → e < g .m → Quiet g y w a (x .ins) (x .past) e

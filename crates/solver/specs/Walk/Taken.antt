@@ -16,7 +16,7 @@ use Rattle.sets.specs.Sets.Order.{empty-lt, common-lt, add-lt}
 use Rattle.graph.specs.Graph.{Graph, Acceptable, System, may, sure}
 use Rattle.graph.specs.Graph.Rules.{from-low}
 use Rattle.graph.specs.Graph.Code.{from-code}
-use Rattle.solver.specs.Walk.{callNum, pastNum, transNum, edgeNum, calledBy, movedBy, carried, fromOf, toOf, State, state, sendFrom, last, Linked, Sendable, Begun, Setting, Good, Quiet, toDo, Walking, Sending}
+use Rattle.solver.specs.Walk.{callNum, pastNum, transNum, edgeNum, calledBy, movedBy, carried, fromOf, toOf, State, state, sendFrom, last, Linked, Sendable, Begun, Storable, Setting, Good, Quiet, toDo, Walking, Sending}
 use Rattle.solver.specs.Walk.Links.{last-upper, last-own, last-le}
 use Rattle.solver.specs.Walk.Stack.{take-stacked, none-stacked, all-stacked, zeros-none}
 use Rattle.solver.specs.Walk.Sums.{begun-good}
@@ -183,3 +183,25 @@ walk-begins g y w a s q d st acc b ls lq ld lst ones full = record {
   stacked = all-stacked (g .n) d st (zeros-none d ones) lst full;
   sized = record { ins-long = ls; past-long = lq; marks-long = ld };
 }
+
+-- the slices that out sets are computed from are long enough
+pub storable : (g : Graph) (out : ℕ) (a s q : List ℕ) → Acceptable g → g .m ≤ out → g .n ≤ length a → g .n ≤ length s → g .n ≤ length q
+    → Storable (g .n) (g .m) out (g .kinds) (g .checks) (g .privileged) (g .grants) (g .froms) (g .tos) (g .ways) a s q
+storable g out a s q acc lo la ls lq =
+    let n = acc .shape .nodes in
+    let e = acc .shape .edges in
+    record {
+      out-long = lo;
+      kinds-long = omega arith;
+      checks-long = omega arith;
+      privileged-long = omega arith;
+      grants-long = omega arith;
+      froms-long = omega arith;
+      tos-long = omega arith;
+      ways-long = omega arith;
+      any-long = la;
+      ins-long = ls;
+      past-long = lq;
+      starts = λ d l. (acc .edges d l) .from-node;
+      ends = λ d l. (acc .edges d l) .to-node;
+    }

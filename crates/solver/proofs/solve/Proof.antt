@@ -1,59 +1,46 @@
+use Rattle.solver.specs.Solve.{results, graph, refused, solved}
+use Rattle.graph.specs.Judge.Laws.{accepted-is, refused-is}
+use Rattle.truth.specs.Truth.Tests.{says-true, says-false}
+use borrow.Author.Tests.{not-true, not-false}
 use borrow.Author.Needs.{needs}
 use Rattle.solver.proofs.solve.Statement.{statement}
 use Rattle.solver.proofs.solve.Tie as tie
-use Rattle.solver.proofs.solve.Reads as reads
-use Rattle.solver.proofs.solve.Lts as lts
-use Rattle.graph.proofs.check.Reads as check-reads
-use Rattle.solver.proofs.results_long.Reads as results-long-reads
-use Rattle.solver.proofs.store.Reads as store-reads
 
--- src/lib.rt:591:9
 results-long-requires : tie.Need-results-long-requires
 results-long-requires c κs = search needs
 
--- src/lib.rt:592:9
 returns : tie.Need-returns
-returns c = ?
+returns c = refused (results (says-false (c .before .results-long .ensures) (not-true _ (c .if1 .taken))))
 
--- src/lib.rt:594:9
 check-requires : tie.Need-check-requires
 check-requires c κs = search needs
 
--- src/lib.rt:610:17
 enum-told : tie.Need-enum-told
 enum-told c = search needs
 
--- src/lib.rt:609:13
 store-requires : tie.Need-store-requires
-store-requires c κs = ?
+store-requires c κs = (accepted-is (rw (c .before .before .before .before .enum-told .given .1) at (c .before .before .before .before .before .before .check .ensures)), says-true (c .before .before .before .before .before .before .before .before .results-long .ensures) (not-false _ (c .before .before .before .before .before .before .before .if1 .left)))
 
--- src/lib.rt:628:25
 enum-known-judged : tie.Need-enum-known-judged
 enum-known-judged c = search needs
 
--- src/lib.rt:572:1
 same-length : tie.Need-same-length
 same-length c = search needs
 
--- src/lib.rt:572:1
 same-length-2 : tie.Need-same-length-2
 same-length-2 c = search needs
 
--- src/lib.rt:572:1
 same-length-3 : tie.Need-same-length-3
 same-length-3 c = search needs
 
--- src/lib.rt:572:1
 same-length-4 : tie.Need-same-length-4
 same-length-4 c = search needs
 
--- src/lib.rt:572:1
 returns-2 : tie.Need-returns-2
-returns-2 c = ?
+returns-2 c = solved (says-true (c .before .before .before .before .before .before .before .before .before .before .before .before .before .before .before .before .before .results-long .ensures) (not-false _ (c .before .before .before .before .before .before .before .before .before .before .before .before .before .before .before .before .if1 .left))) (accepted-is (rw (c .before .before .before .before .before .before .before .before .before .before .before .before .before .enum-told .given .1) at (c .before .before .before .before .before .before .before .before .before .before .before .before .before .before .before .check .ensures))) (c .before .before .before .before .before .before .before .before .store .ensures)
 
--- src/lib.rt:572:1
 returns-3 : tie.Need-returns-3
-returns-3 c = ?
+returns-3 c = refused (graph (says-true (c .before .before .before .before .before .results-long .ensures) (not-false _ (c .before .before .before .before .if1 .left))) (refused-is (rw (c .before .judged .given .1) at (c .before .before .before .check .ensures))))
 
 pub solve-spec : {M : Type 1} → statement M
 solve-spec =

@@ -1,5 +1,6 @@
 -- What `solve` and `verdict` promise. Definitions alone: that each promise leaves one answer and one content is below.
 pub mod Laws
+pub mod Impostors
 use Prim.Native.Nat.{ℕ, _<_}
 use mathlib.Core.Path.{_≡_}
 use mathlib.Core.List.{List}

@@ -6,7 +6,7 @@ use Rattle.truth.specs.Truth.{first, some, every}
 use Rattle.sets.specs.Sets.Code.{has-code}
 use Rattle.sets.specs.Sets.Pack.{pack}
 use Rattle.graph.specs.Graph.{Graph, graphOf, kind, isCheck, check, privileged, entry, grants, from, to, way, isCall, Acceptable, arriving, someArrival, everyArrival, inSet, callSet, pastSet, transSet, outSet, deniedSet, grantedSet, Slices, Content}
-use Rattle.graph.specs.Graph.Rounds.{sheet, written, rounds}
+use Rattle.graph.specs.Graph.Rounds.{sheet, written, rounds, mayRounds}
 use Rattle.graph.specs.Graph.Tables.{Computed, computed-accepted, computed-content, computed-one}
 use Rattle.graph.specs.Judge.{shapeTest, nodeTest, edgeTest, noEntry, judge}
 
@@ -43,3 +43,8 @@ gateway-content = computed-content gateway gatewaySlices 3 3 computed
 
 pub gateway-one : {s : Slices} → Content gateway s → s ≡ gatewaySlices
 gateway-one = computed-one gateway gatewaySlices 3 3 computed
+
+-- after a single round MAY is not there yet
+pub gateway-one-round : mayRounds gateway 1 ≡ 3 ∷ 2 ∷ 0 ∷ 2 ∷ 3 ∷ 0 ∷ 0 ∷ 2 ∷ []
+unfolding rounds written sheet pack some every someArrival everyArrival kind isCheck check privileged entry grants from to way isCall arriving inSet callSet pastSet transSet outSet
+gateway-one-round = simp has-code

@@ -3,98 +3,15 @@ use graph::Judged;
 use graph::Refusal;
 use sets::Set;
 ghost use mathlib.Core.Path.{_≡_};
-ghost use mathlib.Core.Bool.{true, false, _&&_};
+ghost use mathlib.Core.Bool.{true, false};
 ghost use Prim.Native.Nat.{ℕ, _+_, _≤_, _<_};
 ghost use lib.ListN.{length, getD};
-ghost use lib.Dec.{eqb};
 ghost use Rattle.truth.specs.Truth.{Says};
 ghost use Rattle.sets.specs.Sets.{has};
 ghost use Rattle.graph.specs.Graph.{graphOf, Acceptable, Content, verdictOf};
-ghost use Rattle.solver.specs.Walk.{systemOf, start, merge, callNum, pastNum, transNum, edgeNum, judgedNum, startIns, startPast, movedBy, carriedBy, state, fresh, sendFrom, Linked, Sendable, Delivered, Put, Begun, Storable, NodesStored, Setting, Walking};
-ghost use Rattle.solver.specs.Walk.Settled.{Settled};
+ghost use Rattle.flow.specs.Walk.{systemOf, judgedNum, movedBy, carriedBy, state, fresh, sendFrom, Linked, Sendable, Delivered, Put, Begun, Storable, NodesStored, Setting, Walking};
+ghost use Rattle.flow.specs.Walk.Settled.{Settled};
 ghost use Rattle.solver.specs.Solve.{slices, ResultsLong, Solves, verdictNumber, SetsLong, Rules};
-
-// One set more arrives: MAY joins it, SURE takes the common part.
-fn merge(sure: bool, sum: u64, more: u64) -> u64
-    ensures { λ r. ⌜ r ≡ merge (systemOf sure) sum more ⌝ }
-{
-    if sure {
-        return Set { bits: sum }.common(Set { bits: more }).bits;
-    }
-    Set { bits: sum }.join(Set { bits: more }).bits
-}
-
-// A sum before anything arrives.
-fn start(sure: bool, k: usize) -> u64
-    ensures { λ r. ⌜ r ≡ start (systemOf sure) k ⌝ }
-{
-    if sure {
-        return Set::all(k).bits;
-    }
-    Set::EMPTY.bits
-}
-
-// The call set of a node with the sum `arrived`.
-fn called(privileged: u8, grants: u64, arrived: u64) -> u64
-    ensures { λ r. ⌜ r ≡ callNum privileged grants arrived ⌝ }
-{
-    if privileged == 1 {
-        return grants;
-    }
-    arrived
-}
-
-// What is past an unprivileged check with the sum `past` of what passes it.
-fn passed(sure: bool, check: u16, past: u64, any: u64) -> u64
-    ensures { λ r. ⌜ r ≡ pastNum (systemOf sure) check past (has any check) ⌝ }
-{
-    if !sure {
-        return past;
-    }
-    let p = check as usize;
-    let all = Set { bits: any };
-    if all.has(p) {
-        return Set { bits: past }.add(p).bits;
-    }
-    Set::EMPTY.bits
-}
-
-// The trans set of a node, from its sum and what is past its check.
-fn moved(kind: u8, check: u16, privileged: u8, grants: u64, arrived: u64, past: u64) -> u64
-    ensures { λ r. ⌜ r ≡ transNum kind check privileged grants arrived past ⌝ }
-{
-    if kind != 2 {
-        return arrived;
-    }
-    if privileged != 1 {
-        return past;
-    }
-    let own = Set { bits: grants };
-    if own.has(check as usize) {
-        return arrived;
-    }
-    Set::EMPTY.bits
-}
-
-// The out set of an edge, from its from node's call and trans sets and its to node's grants.
-fn carry(way: u8, called: u64, moved: u64, into: u64) -> u64
-    ensures { λ r. ⌜ r ≡ edgeNum way called moved into ⌝ }
-{
-    if way == 0 {
-        return Set { bits: called }.common(Set { bits: into }).bits;
-    }
-    moved
-}
-
-// Whether a set counts at the check of the node that it arrives at, judged by the set `by`.
-fn counts(kind: u8, check: u16, by: u64) -> bool
-    ensures { λ r. ⌜ r ≡ (eqb kind 2 && has by check) ⌝ }
-{
-    if kind != 2 {
-        return false;
-    }
-    Set { bits: by }.has(check as usize)
-}
 
 // The set by which the set v of edge e is judged.
 fn judged(sure: bool, wide: &[u64], e: usize, v: u64) -> u64
@@ -113,13 +30,13 @@ fn deliver(ins: &mut [u64], past: &mut [u64], sure: bool, b: usize, v: u64, coun
     ensures { λ r. ⌜ Delivered (systemOf sure) (now (ins .entry)) (now (past .entry)) b v counted (now (ins .exit)) (now (past .exit)) r ⌝ }
 {
     let sum = ins[b];
-    let more = merge(sure, sum, v);
+    let more = flow::merge(sure, sum, v);
     ins[b] = more;
     if !counted {
         return more != sum;
     }
     let passing = past[b];
-    let after = merge(sure, passing, v);
+    let after = flow::merge(sure, passing, v);
     past[b] = after;
     if more != sum {
         return true;
@@ -174,9 +91,9 @@ fn send(
     while cur != 0 {
         let e = (cur - 1) as usize;
         let b = tos[e] as usize;
-        let v = carry(ways[e], call, trans, grants[b]);
+        let v = flow::carry(ways[e], call, trans, grants[b]);
         let by = judged(sure, wide, e, v);
-        let counted = counts(kinds[b], checks[b], by);
+        let counted = flow::counts(kinds[b], checks[b], by);
         let changed = deliver(ins, past, sure, b, v, counted);
         t = put(marks, stack, b, changed, t);
         cur = prev[e];
@@ -213,27 +130,6 @@ fn fill(stack: &mut [u16], n: usize)
     }
 }
 
-fn first_sum(sure: bool, k: usize, entry: u8, grants: u64) -> u64
-    ensures { λ r. ⌜ r ≡ startIns (systemOf sure) k entry grants ⌝ }
-{
-    if entry == 1 {
-        return grants;
-    }
-    start(sure, k)
-}
-
-fn first_passing(sure: bool, k: usize, entry: u8, grants: u64, check: u16) -> u64
-    ensures { λ r. ⌜ r ≡ startPast (systemOf sure) k entry grants check ⌝ }
-{
-    let own = Set { bits: grants };
-    if entry == 1 {
-        if own.has(check as usize) {
-            return grants;
-        }
-    }
-    start(sure, k)
-}
-
 // The sums of all nodes before anything but the entry marks arrives.
 fn begin(
     ins: &mut [u64],
@@ -250,8 +146,8 @@ fn begin(
 {
     let mut i = 0;
     while i < n {
-        ins[i] = first_sum(sure, k, entries[i], grants[i]);
-        past[i] = first_passing(sure, k, entries[i], grants[i], checks[i]);
+        ins[i] = flow::first_sum(sure, k, entries[i], grants[i]);
+        past[i] = flow::first_passing(sure, k, entries[i], grants[i], checks[i]);
         i += 1;
     }
 }
@@ -272,8 +168,8 @@ fn trans_at(
     requires { ⌜ (i < length (now any)) × (i < length (now ins)) × (i < length (now past)) ⌝ }
     ensures { λ r. ⌜ r ≡ movedBy (now (kinds .entry)) (now (checks .entry)) (now (privileged .entry)) (now (grants .entry)) (systemOf sure) (now (any .entry)) (now (ins .entry)) (now (past .entry)) i ⌝ }
 {
-    let beyond = passed(sure, checks[i], past[i], any[i]);
-    moved(
+    let beyond = flow::passed(sure, checks[i], past[i], any[i]);
+    flow::moved(
         kinds[i],
         checks[i],
         privileged[i],
@@ -307,9 +203,9 @@ fn store_outs(
     while e < m {
         let a = froms[e] as usize;
         let b = tos[e] as usize;
-        let call = called(privileged[a], grants[a], ins[a]);
+        let call = flow::called(privileged[a], grants[a], ins[a]);
         let trans = trans_at(sure, a, kinds, checks, privileged, grants, any, ins, past);
-        out[e] = carry(ways[e], call, trans, grants[b]);
+        out[e] = flow::carry(ways[e], call, trans, grants[b]);
         e += 1;
     }
 }
@@ -331,10 +227,10 @@ fn store_nodes(
     let mut i = 0;
     while i < n {
         let may = Set {
-            bits: called(privileged[i], grants[i], may_ins[i]),
+            bits: flow::called(privileged[i], grants[i], may_ins[i]),
         };
         denied[i] = Set::all(k).without(may).bits;
-        granted[i] = called(privileged[i], grants[i], sure_ins[i]);
+        granted[i] = flow::called(privileged[i], grants[i], sure_ins[i]);
         i += 1;
     }
 }
@@ -373,7 +269,7 @@ fn walk(
         let t = top - 1;
         let i = stack[t] as usize;
         marks[i] = 0;
-        let call = called(privileged[i], grants[i], ins[i]);
+        let call = flow::called(privileged[i], grants[i], ins[i]);
         let trans = trans_at(sure, i, kinds, checks, privileged, grants, any, ins, past);
         top = send(
             ins,

@@ -1,6 +1,6 @@
 -- `solver::deliver` meets its contract. Assumes nothing.
 use borrow.Author.Tests.{not-true, not-false}
-use Rattle.solver.specs.Walk.Sent.{uncounted, counted-new, counted-old}
+use Rattle.flow.specs.Walk.Sent.{uncounted, counted-new, counted-old}
 use borrow.Author.Needs.{needs}
 use Rattle.solver.proofs.deliver.Statement.{statement}
 use Rattle.solver.proofs.deliver.Tie as tie

@@ -1,7 +1,7 @@
 use Prim.Native.Nat.{_-_}
 use mathlib.Core.Path.{refl}
 use native.Mathlib.Omega.{arith}
-use Rattle.solver.specs.Walk.Filled.{Filled, filled-none, filled-more, filled-all}
+use Rattle.flow.specs.Walk.Filled.{Filled, filled-none, filled-more, filled-all}
 use Rattle.solver.proofs.fill.Statement.{statement}
 use Rattle.solver.proofs.fill.Tie as tie
 

@@ -1,6 +1,6 @@
 -- `solver::judged` meets its contract. Assumes nothing.
 use borrow.Author.Needs.{needs}
-use Rattle.solver.specs.Walk.{judgedNum}
+use Rattle.flow.specs.Walk.{judgedNum}
 use Rattle.solver.proofs.judged.Statement.{statement}
 use Rattle.solver.proofs.judged.Tie as tie
 

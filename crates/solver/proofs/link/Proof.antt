@@ -2,8 +2,8 @@ use Prim.Native.Nat.{_-_, _≤_, _<_}
 use mathlib.Core.Path.{_≡_, refl}
 use native.Mathlib.Omega.{arith}
 use lib.ListN.{length, getD, length-set}
-use Rattle.solver.specs.Walk.{Linked}
-use Rattle.solver.specs.Walk.Links.{link-none, link-step}
+use Rattle.flow.specs.Walk.{Linked}
+use Rattle.flow.specs.Walk.Links.{link-none, link-step}
 use Rattle.solver.proofs.link.Statement.{statement}
 use Rattle.solver.proofs.link.Tie as tie
 

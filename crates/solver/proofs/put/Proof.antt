@@ -1,6 +1,6 @@
 -- `solver::put` meets its contract. Assumes nothing.
 use borrow.Author.Tests.{not-true, not-false}
-use Rattle.solver.specs.Walk.Sent.{unchanged, marked, full, stacked}
+use Rattle.flow.specs.Walk.Sent.{unchanged, marked, full, stacked}
 use borrow.Author.Needs.{needs}
 use Rattle.solver.proofs.put.Statement.{statement}
 use Rattle.solver.proofs.put.Tie as tie

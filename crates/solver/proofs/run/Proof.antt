@@ -1,6 +1,6 @@
 use mathlib.Core.Path.{refl}
 use Prim.Native.Nat.{ℕ, _<_}
-use Rattle.solver.specs.Walk.Taken.{walk-begins, rested, storable}
+use Rattle.flow.specs.Walk.Taken.{walk-begins, rested, storable}
 use lib.ListN.{length-replicate, getD-replicate}
 use native.Mathlib.Omega.{arith}
 use borrow.Author.Needs.{needs}

@@ -5,8 +5,8 @@ use Prim.Native.Nat.{ℕ, _-_, _≤_, _<_}
 use lib.ListN.{length, getD}
 use native.Mathlib.Omega.{arith}
 use borrow.Author.Needs.{needs}
-use Rattle.solver.specs.Walk.{systemOf, state, sendFrom}
-use Rattle.solver.specs.Walk.Sent.{sent-all, sent-one}
+use Rattle.flow.specs.Walk.{systemOf, state, sendFrom}
+use Rattle.flow.specs.Walk.Sent.{sent-all, sent-one}
 use Rattle.solver.proofs.send.Statement.{statement}
 use Rattle.solver.proofs.send.Tie as tie
 

@@ -1,5 +1,5 @@
-use Rattle.solver.specs.Walk.Stored.{walked-content}
-use Rattle.solver.specs.Walk.Settled.{may-any}
+use Rattle.flow.specs.Walk.Stored.{walked-content}
+use Rattle.flow.specs.Walk.Settled.{may-any}
 use lib.ListN.{getD-replicate}
 use native.Mathlib.Omega.{arith}
 use mathlib.Core.Path.{_∙_, refl, sym}

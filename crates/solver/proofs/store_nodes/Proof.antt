@@ -1,9 +1,9 @@
 use Prim.Native.Nat.{_-_}
 use native.Mathlib.Omega.{arith}
 use borrow.Author.Needs.{needs}
-use Rattle.solver.specs.Walk.Filled.{Filled, filled-none, filled-more, filled-all}
+use Rattle.flow.specs.Walk.Filled.{Filled, filled-none, filled-more, filled-all}
 use Rattle.sets.specs.Sets.{all, without}
-use Rattle.solver.specs.Walk.{calledBy}
+use Rattle.flow.specs.Walk.{calledBy}
 use Rattle.solver.proofs.store_nodes.Statement.{statement}
 use Rattle.solver.proofs.store_nodes.Tie as tie
 

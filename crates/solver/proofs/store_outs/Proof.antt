@@ -2,8 +2,8 @@ use Prim.Native.Nat.{_-_, _<_}
 use lib.ListN.{getD}
 use native.Mathlib.Omega.{arith}
 use borrow.Author.Needs.{needs}
-use Rattle.solver.specs.Walk.Filled.{Filled, filled-none, filled-more, filled-all}
-use Rattle.solver.specs.Walk.{systemOf, carriedBy}
+use Rattle.flow.specs.Walk.Filled.{Filled, filled-none, filled-more, filled-all}
+use Rattle.flow.specs.Walk.{systemOf, carriedBy}
 use Rattle.solver.proofs.store_outs.Statement.{statement}
 use Rattle.solver.proofs.store_outs.Tie as tie
 

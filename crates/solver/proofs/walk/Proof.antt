@@ -4,8 +4,8 @@ use native.Mathlib.Omega.{arith}
 use lib.ListN.{length, getD, length-set}
 use borrow.Author.Needs.{needs}
 use Rattle.graph.specs.Graph.{Graph, graphOf}
-use Rattle.solver.specs.Walk.{systemOf, state, State, toDo, Walking}
-use Rattle.solver.specs.Walk.Taken.{top-low, node-reads, first-low, sendable, turn}
+use Rattle.flow.specs.Walk.{systemOf, state, State, toDo, Walking}
+use Rattle.flow.specs.Walk.Taken.{top-low, node-reads, first-low, sendable, turn}
 use Rattle.solver.proofs.walk.Statement.{statement}
 use Rattle.solver.proofs.walk.Tie as tie
 

@@ -1,0 +1,110 @@
+// What a node and an edge pass on, by their numbers: the rules that the solver's walk applies. Every call takes any numbers.
+use sets::Set;
+ghost use mathlib.Core.Path.{_≡_};
+ghost use mathlib.Core.Bool.{_&&_};
+ghost use lib.Dec.{eqb};
+ghost use Rattle.sets.specs.Sets.{has};
+ghost use Rattle.flow.specs.Walk.{systemOf, start, merge, callNum, pastNum, transNum, edgeNum, startIns, startPast};
+
+// One set more arrives: MAY joins it, SURE takes the common part.
+pub fn merge(sure: bool, sum: u64, more: u64) -> u64
+    ensures { λ r. ⌜ r ≡ merge (systemOf sure) sum more ⌝ }
+{
+    if sure {
+        return Set { bits: sum }.common(Set { bits: more }).bits;
+    }
+    Set { bits: sum }.join(Set { bits: more }).bits
+}
+
+// A sum before anything arrives.
+pub fn start(sure: bool, k: usize) -> u64
+    ensures { λ r. ⌜ r ≡ start (systemOf sure) k ⌝ }
+{
+    if sure {
+        return Set::all(k).bits;
+    }
+    Set::EMPTY.bits
+}
+
+// The call set of a node with the sum `arrived`.
+pub fn called(privileged: u8, grants: u64, arrived: u64) -> u64
+    ensures { λ r. ⌜ r ≡ callNum privileged grants arrived ⌝ }
+{
+    if privileged == 1 {
+        return grants;
+    }
+    arrived
+}
+
+// What is past an unprivileged check with the sum `past` of what passes it.
+pub fn passed(sure: bool, check: u16, past: u64, any: u64) -> u64
+    ensures { λ r. ⌜ r ≡ pastNum (systemOf sure) check past (has any check) ⌝ }
+{
+    if !sure {
+        return past;
+    }
+    let p = check as usize;
+    let all = Set { bits: any };
+    if all.has(p) {
+        return Set { bits: past }.add(p).bits;
+    }
+    Set::EMPTY.bits
+}
+
+// The trans set of a node, from its sum and what is past its check.
+pub fn moved(kind: u8, check: u16, privileged: u8, grants: u64, arrived: u64, past: u64) -> u64
+    ensures { λ r. ⌜ r ≡ transNum kind check privileged grants arrived past ⌝ }
+{
+    if kind != 2 {
+        return arrived;
+    }
+    if privileged != 1 {
+        return past;
+    }
+    let own = Set { bits: grants };
+    if own.has(check as usize) {
+        return arrived;
+    }
+    Set::EMPTY.bits
+}
+
+// The out set of an edge, from its from node's call and trans sets and its to node's grants.
+pub fn carry(way: u8, called: u64, moved: u64, into: u64) -> u64
+    ensures { λ r. ⌜ r ≡ edgeNum way called moved into ⌝ }
+{
+    if way == 0 {
+        return Set { bits: called }.common(Set { bits: into }).bits;
+    }
+    moved
+}
+
+// Whether a set counts at the check of the node that it arrives at, judged by the set `by`.
+pub fn counts(kind: u8, check: u16, by: u64) -> bool
+    ensures { λ r. ⌜ r ≡ (eqb kind 2 && has by check) ⌝ }
+{
+    if kind != 2 {
+        return false;
+    }
+    Set { bits: by }.has(check as usize)
+}
+
+pub fn first_sum(sure: bool, k: usize, entry: u8, grants: u64) -> u64
+    ensures { λ r. ⌜ r ≡ startIns (systemOf sure) k entry grants ⌝ }
+{
+    if entry == 1 {
+        return grants;
+    }
+    start(sure, k)
+}
+
+pub fn first_passing(sure: bool, k: usize, entry: u8, grants: u64, check: u16) -> u64
+    ensures { λ r. ⌜ r ≡ startPast (systemOf sure) k entry grants check ⌝ }
+{
+    let own = Set { bits: grants };
+    if entry == 1 {
+        if own.has(check as usize) {
+            return grants;
+        }
+    }
+    start(sure, k)
+}

@@ -1,6 +1,7 @@
 -- Stacks, the two inspections, the steps, and what can be reached: document 01, "Inspection and steps". Definitions alone: the laws and
 -- demand 3 are in the modules below. A stack is a list of node numbers here, top first, and may be of any height.
 pub mod Inspections
+pub mod Looking
 pub mod Frames
 pub mod Demand3
 use Prim.Native.Nat.{ℕ, zero, suc, _<_, _≤_}

@@ -553,8 +553,8 @@ fn judge_check(denied: bool, granted: bool) -> Finding
     Finding::Needed
 }
 
-// By the lengths of the denied and granted slices.
-fn sets_long(n: usize, denied: usize, granted: usize) -> bool
+// Whether the denied and granted slices are as long as they have to be, by their lengths.
+pub fn sets_long(n: usize, denied: usize, granted: usize) -> bool
     ensures { λ r. ⌜ Says (SetsLong n denied granted) r ⌝ }
 {
     if denied != n {

@@ -2,16 +2,27 @@
 use Prim.Native.Nat.{ℕ, suc, _≤_}
 use mathlib.Core.Path.{_≡_, refl, sym, _∙_, ap}
 use mathlib.Core.List.{List, [], _∷_}
-use mathlib.Core.Bool.{Bool, true, false}
+use mathlib.Core.Bool.{true, false, cond}
+use lib.Dec.{eqb}
 use native.Mathlib.Omega.{arith}
 use lib.ListN.{getD}
 use Rattle.truth.specs.Truth.Bools.{by-split, clash}
 use Rattle.sets.specs.Sets.{has}
 use Rattle.graph.specs.Graph.{Graph, privileged, grants}
+use Rattle.graph.specs.Graph.Code.{grants-code, privileged-code}
 use Rattle.machine.specs.Machine.{Inspected, decided, below, bottom, full, quick}
 
-passing : Inspected → Bool
-passing a = a .passes
+-- full inspection by the numbers in the slices
+pub fullBy : (privileged grants : List ℕ) → ℕ → List ℕ → Inspected
+fullBy privileged grants p [] = bottom
+fullBy privileged grants p (n ∷ r) =
+    let down = below (fullBy privileged grants p r) in
+    cond (has (getD grants n 0) p) (cond (eqb (getD privileged n 0) 1) (decided true) down) (decided false)
+
+pub full-by : (g : Graph) (p : ℕ) (x : List ℕ) → full g p x ≡ fullBy (g .privileged) (g .grants) p x
+unfolding full fullBy
+full-by g p [] = refl
+full-by g p (n ∷ r) = rw (grants-code g n p, privileged-code g n p, full-by g p r)
 
 module _ (g : Graph) (p : ℕ) where
   pub full-bottom : full g p [] ≡ bottom
@@ -58,3 +69,22 @@ module _ (denied granted : List ℕ) (p : ℕ) where
     pub quick-below : has (getD denied n 0) p ≡ false → has (getD granted n 0) p ≡ false → quick denied granted p (n ∷ r) ≡ below (quick denied granted p r)
     unfolding quick
     quick-below d a = rw (d, a)
+
+-- the same of the full inspection by numbers
+module _ (privileged grants : List ℕ) (p : ℕ) where
+  pub by-bottom : fullBy privileged grants p [] ≡ bottom
+  unfolding fullBy
+  by-bottom = refl
+
+  module _ (n : ℕ) (r : List ℕ) where
+    pub by-lacks : has (getD grants n 0) p ≡ false → fullBy privileged grants p (n ∷ r) ≡ decided false
+    unfolding fullBy
+    by-lacks a = rw a
+
+    pub by-stops : has (getD grants n 0) p ≡ true → eqb (getD privileged n 0) 1 ≡ true → fullBy privileged grants p (n ∷ r) ≡ decided true
+    unfolding fullBy
+    by-stops a v = rw (a, v)
+
+    pub by-below : has (getD grants n 0) p ≡ true → eqb (getD privileged n 0) 1 ≡ false → fullBy privileged grants p (n ∷ r) ≡ below (fullBy privileged grants p r)
+    unfolding fullBy
+    by-below a v = rw (a, v)

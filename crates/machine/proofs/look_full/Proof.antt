@@ -1,0 +1,114 @@
+-- `machine::look_full` meets its contract. The loop's invariant: the answer from here is the answer from the start. Assumes nothing.
+use mathlib.Core.Path.{_≡_, sym, _∙_}
+use Prim.Native.Nat.{ℕ, _-_, _<_}
+use lib.ListN.{length, getD}
+use native.Mathlib.Omega.{arith}
+use borrow.Author.Needs.{needs}
+use borrow.Author.Tests.{not-true, not-false, eq-eqb, ne-eqb}
+use Rattle.machine.specs.Machine.Inspections.{fullBy, by-bottom, by-lacks, by-stops, by-below}
+use Rattle.machine.specs.Machine.Looking.{Looking, looking-start, looking-passes, looking-fails, looking-below, looking-end}
+use Rattle.machine.proofs.look_full.Statement.{statement}
+use Rattle.machine.proofs.look_full.Tie as tie
+
+abbrev Inv-loop : tie.InvT-loop
+Inv-loop privileged grants stack height p h₀ h = Looking (fullBy privileged grants p) stack height h
+
+abbrev μ-loop : tie.MeasureT-loop
+μ-loop privileged grants stack height p h₀ h = h
+
+-- what a turn knows: the top frame of those left is a node
+module _ (c : tie.In-loop Inv-loop μ-loop) where
+  abbrev start : tie.Start Inv-loop μ-loop
+  start = c .before .before .before .before .before
+
+  abbrev top : ℕ
+  top = c .before .loop .h - 1
+
+  own : top < length (start .args .stack .now)
+  own = omega (arith, c .before .loop .inv .left, start .pre .0 .0)
+
+  node : getD (start .args .stack .now) top 0 < length (start .args .grants .now)
+  node = start .pre .1 top (omega (arith, c .before .loop .inv .left))
+
+loop-holds : tie.Need-loop-holds Inv-loop μ-loop
+loop-holds c = looking-start _ _ _
+
+sub-i : tie.Need-sub-i Inv-loop μ-loop
+sub-i c = search needs
+
+mul-i : tie.Need-mul-i Inv-loop μ-loop
+mul-i c = omega arith
+
+shared-slice-read-i : tie.Need-shared-slice-read-i Inv-loop μ-loop
+shared-slice-read-i c = own (c .before)
+
+cast-i : tie.Need-cast-i Inv-loop μ-loop
+cast-i c = omega (arith, c .shared-slice-known4 .given (top (c .before)))
+
+mul-t10 : tie.Need-mul-t10 Inv-loop μ-loop
+mul-t10 c = let i = c .before in omega (arith, node i)
+
+shared-slice-read-t15 : tie.Need-shared-slice-read-t15 Inv-loop μ-loop
+shared-slice-read-t15 c = node (c .before .before)
+
+has-requires : tie.Need-has-requires Inv-loop μ-loop
+has-requires c κs = search needs
+
+sub-t17 : tie.Need-sub-t17 Inv-loop μ-loop
+sub-t17 c = let i = c .before .before .before .before in omega (arith, i .before .loop .inv .left)
+
+add-t18 : tie.Need-add-t18 Inv-loop μ-loop
+add-t18 c = let i = c .before .before .before .before in omega (arith, start i .pre .0 .1)
+
+returns : tie.Need-returns Inv-loop μ-loop
+returns c = let i = c .before .before .before .before in looking-fails (i .before .loop .inv) (i .loop-test .taken) (by-lacks _ _ _ _ _ (sym (c .before .has .ensures) ∙ not-true _ (c .if1 .taken)))
+
+shared-slice-read-if2 : tie.Need-shared-slice-read-if2 Inv-loop μ-loop
+shared-slice-read-if2 c = let i = c .before .before .before .before .before in omega (arith, node i, start i .pre .0 .2)
+
+sub-t21 : tie.Need-sub-t21 Inv-loop μ-loop
+sub-t21 c = let i = c .before .before .before .before .before .before in omega (arith, i .before .loop .inv .left)
+
+add-t22 : tie.Need-add-t22 Inv-loop μ-loop
+add-t22 c = let i = c .before .before .before .before .before .before in omega (arith, start i .pre .0 .1)
+
+returns-2 : tie.Need-returns-2 Inv-loop μ-loop
+returns-2 c = let i = c .before .before .before .before .before .before in looking-passes (i .before .loop .inv) (i .loop-test .taken) (by-stops _ _ _ _ _ (sym (c .before .before .before .has .ensures) ∙ not-false _ (c .before .before .if1 .left)) (eq-eqb _ 1 (c .if2 .taken)))
+
+sub-h : tie.Need-sub-h Inv-loop μ-loop
+sub-h c = search needs
+
+loop-less : tie.Need-loop-less Inv-loop μ-loop
+loop-less c = let i = c .before .before .before .before .before .before in omega (arith, i .loop-test .taken)
+
+loop-again : tie.Need-loop-again Inv-loop μ-loop
+loop-again c = let i = c .before .before .before .before .before .before in looking-below (i .before .loop .inv) (i .loop-test .taken) (by-below _ _ _ _ _ (sym (c .before .before .before .has .ensures) ∙ not-false _ (c .before .before .if1 .left)) (ne-eqb _ 1 (c .if2 .left)))
+
+returns-3 : tie.Need-returns-3 Inv-loop μ-loop
+returns-3 c = looking-end (c .before .loop .inv) (c .loop-test .left) (by-bottom _ _ _)
+
+pub look-full-spec : {M : Type 1} → statement M
+look-full-spec =
+    tie.close
+    (tie.spec
+    Inv-loop
+    μ-loop
+    loop-holds
+    sub-i
+    mul-i
+    shared-slice-read-i
+    cast-i
+    mul-t10
+    shared-slice-read-t15
+    has-requires
+    sub-t17
+    add-t18
+    returns
+    shared-slice-read-if2
+    sub-t21
+    add-t22
+    returns-2
+    sub-h
+    loop-less
+    loop-again
+    returns-3)

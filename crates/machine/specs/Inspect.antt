@@ -1,0 +1,47 @@
+-- What `full` and `quick` promise. Definitions alone: that each promise leaves one answer is below.
+pub mod Laws
+use Prim.Native.Nat.{ℕ, _<_, _≤_}
+use mathlib.Core.Path.{_≡_}
+use mathlib.Core.List.{List}
+use mathlib.Core.Bool.{true, false}
+use lib.ListN.{length, getD}
+use Rattle.truth.specs.Truth.{All}
+use Rattle.graph.specs.Graph.{Graph, Acceptable}
+use Rattle.graph.specs.Refusals.{Numbered, _at_, numbered}
+use Rattle.graph.specs.Judge.{Refuses}
+use Rattle.graph.specs.declared.Refusal.{Refusal}
+use Rattle.solver.specs.Solve.{SetsLong}
+use Rattle.machine.specs.declared.Inspection.{Inspection}
+use Rattle.machine.specs.declared.Inspection.the-variants as answer
+use Rattle.machine.specs.Machine.{Inspected, stackOf, full, quick}
+
+-- What an answer says: passes or fails, and how many frames were looked at.
+pub data Says-so : Inspection → Inspected → Type 0 where
+  passes : {n : ℕ} → Says-so (answer.Passes n) (record { passes = true; looked = n })
+  fails : {n : ℕ} → Says-so (answer.Fails n) (record { passes = false; looked = n })
+
+-- A stack of node numbers below n in a slice of at most 1,024 places, height of them used.
+abbrev pub Frame : (n : ℕ) (stack : List ℕ) → ℕ → Type 0
+Frame n stack i = getD stack i 0 < n
+
+pub record StackFits (n : ℕ) (stack : List ℕ) (height : ℕ) : Type 0 where
+  pub slice : length stack ≤ 1024
+  pub held : height ≤ length stack
+  pub nodes : All (Frame n stack) height
+
+-- Refusals 1 to 4 as the graph is refused, then 5 for the permission, then 6 for the stack.
+pub data InspectRefuses (g : Graph) (stack : List ℕ) (height p : ℕ) : Numbered → Type 0 where
+  graph : {x : Numbered} → Refuses g x → InspectRefuses g stack height p x
+  asked : Acceptable g → (p < g .k → ⊥) → InspectRefuses g stack height p (5 at 0)
+  stack : Acceptable g → p < g .k → (StackFits (g .n) stack height → ⊥) → InspectRefuses g stack height p (6 at 0)
+
+pub data FullAnswers (g : Graph) (stack : List ℕ) (height p : ℕ) : Inspection → Type 0 where
+  refused : {r : Refusal} → InspectRefuses g stack height p (numbered r) → FullAnswers g stack height p (answer.Refused r)
+  looked : {a : Inspection} → Acceptable g → p < g .k → StackFits (g .n) stack height → Says-so a (full g p (stackOf stack height)) → FullAnswers g stack height p a
+
+-- Refusal 1 also for the denied and granted slices, which are taken as they are.
+pub data QuickAnswers (g : Graph) (denied granted stack : List ℕ) (height p : ℕ) : Inspection → Type 0 where
+  sets : {r : Refusal} → (SetsLong (g .n) (length denied) (length granted) → ⊥) → numbered r ≡ (1 at 0) → QuickAnswers g denied granted stack height p (answer.Refused r)
+  refused : {r : Refusal} → SetsLong (g .n) (length denied) (length granted) → InspectRefuses g stack height p (numbered r) → QuickAnswers g denied granted stack height p (answer.Refused r)
+  looked : {a : Inspection} → SetsLong (g .n) (length denied) (length granted) → Acceptable g → p < g .k → StackFits (g .n) stack height
+      → Says-so a (quick denied granted p (stackOf stack height)) → QuickAnswers g denied granted stack height p a

@@ -24,7 +24,7 @@ said passes = refl
 said fails = refl
 
 module _ (g : Graph) (s : List ℕ) (h p : ℕ) where
-  refusal-one : {x z : Numbered} → InspectRefuses g s h p x → InspectRefuses g s h p z → x ≡ z
+  pub refusal-one : {x z : Numbered} → InspectRefuses g s h p x → InspectRefuses g s h p z → x ≡ z
   refusal-one (graph f) (graph k) = refuses-one g f k
   refusal-one (graph f) (asked a d) = absurd (refuses-not g f a)
   refusal-one (graph f) (stack a l d) = absurd (refuses-not g f a)
@@ -35,7 +35,7 @@ module _ (g : Graph) (s : List ℕ) (h p : ℕ) where
   refusal-one (stack a l d) (asked b c) = absurd (c l)
   refusal-one (stack a l d) (stack b m c) = refl
 
-  refusal-not : {x : Numbered} → InspectRefuses g s h p x → Acceptable g → p < g .k → StackFits (g .n) s h → ⊥
+  pub refusal-not : {x : Numbered} → InspectRefuses g s h p x → Acceptable g → p < g .k → StackFits (g .n) s h → ⊥
   refusal-not (graph f) a l k = refuses-not g f a
   refusal-not (asked _ d) a l k = d l
   refusal-not (stack _ _ d) a l k = d k

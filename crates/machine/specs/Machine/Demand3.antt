@@ -126,6 +126,10 @@ module _ (g : Graph) (acc : Acceptable g) (x : Slices) (c : Content g x) where
   pub verdictAt : ℕ → ℕ
   verdictAt n = verdictOf (has (getD (x .denied) n 0) (check g n)) (has (getD (x .granted) n 0) (check g n))
 
+  pub verdict-at : (n : ℕ) → verdictAt n ≡ verdictOf (has (getD (x .denied) n 0) (check g n)) (has (getD (x .granted) n 0) (check g n))
+  unfolding verdictAt
+  verdict-at n = refl
+
   -- on every reachable stack with the check n on top
   module _ {n : ℕ} {r : List ℕ} (h : Reachable g (n ∷ r)) (at : isCheck g n ≡ true) where
     stands : Framed g (held (x .mayOut)) (held (x .sureOut)) (n ∷ r)

@@ -1,0 +1,164 @@
+// What full and quick inspection answer on stacks of the worked gateway, by the sets that the solver stores for it, and how many frames
+// each looked at; then bad input. Stacks are written bottom first.
+use libc::STDOUT_FILENO;
+use machine::Inspection;
+ghost use Prim.Native.Nat.{_≤_};
+
+fn print(text: &[u8]) {
+    io::write_all(STDOUT_FILENO, text);
+}
+
+fn print_number(n: usize) {
+    io::print_decimal(STDOUT_FILENO, n as u64);
+}
+
+fn show(answer: Inspection) {
+    match answer {
+        Inspection::Passes(looked) => {
+            print(b" passes ");
+            print_number(looked);
+        }
+        Inspection::Fails(looked) => {
+            print(b" fails ");
+            print_number(looked);
+        }
+        Inspection::Refused(why) => {
+            print(b" refused ");
+            print_number(why.number());
+        }
+    }
+}
+
+fn at_most(n: usize, most: usize) -> usize
+    ensures { λ r. ⌜ r ≤ most ⌝ }
+{
+    if most < n { most } else { n }
+}
+
+// Both inspections for permission p, the quick one by the first `sets` of the stored sets.
+fn inspect(stack: &[u16], height: usize, p: usize, sets: usize) {
+    let kinds: [u8; 8] = [0, 0, 2, 1, 0, 2, 1, 1];
+    let checks: [u16; 8] = [0, 0, 0, 0, 0, 0, 0, 0];
+    let privileged: [u8; 8] = [0, 0, 0, 0, 1, 0, 0, 0];
+    let entries: [u8; 8] = [1, 1, 0, 0, 0, 0, 0, 0];
+    let grants: [u64; 8] = [3, 2, 3, 3, 3, 3, 3, 2];
+    let froms: [u16; 8] = [0, 1, 2, 1, 4, 5, 4, 1];
+    let tos: [u16; 8] = [2, 2, 3, 4, 5, 6, 6, 7];
+    let ways: [u8; 8] = [0, 0, 1, 0, 0, 1, 1, 1];
+    let mut denied = [7u64; 8];
+    let mut granted = [7u64; 8];
+    let mut may = [7u64; 8];
+    let mut sure = [7u64; 8];
+    solver::solve(
+        2,
+        8,
+        8,
+        &kinds,
+        &checks,
+        &privileged,
+        &entries,
+        &grants,
+        &froms,
+        &tos,
+        &ways,
+        &mut denied,
+        &mut granted,
+        &mut may,
+        &mut sure,
+    );
+    print(b"full");
+    show(machine::full(
+        2,
+        8,
+        8,
+        &kinds,
+        &checks,
+        &privileged,
+        &entries,
+        &grants,
+        &froms,
+        &tos,
+        &ways,
+        stack,
+        height,
+        p,
+    ));
+    let long = at_most(sets, 8);
+    print(b", quick");
+    show(machine::quick(
+        2,
+        8,
+        8,
+        &kinds,
+        &checks,
+        &privileged,
+        &entries,
+        &grants,
+        &froms,
+        &tos,
+        &ways,
+        &denied[0..long],
+        &granted[0..long],
+        stack,
+        height,
+        p,
+    ));
+    print(b"\n");
+}
+
+// The four stacks that the rules give, and each of the other heights of the third.
+fn show_gateway() {
+    let through_front: [u16; 2] = [0, 2];
+    print(b"0 2: ");
+    inspect(&through_front, 2, 0, 8);
+    let through_driver: [u16; 2] = [1, 2];
+    print(b"1 2: ");
+    inspect(&through_driver, 2, 0, 8);
+    let privileged: [u16; 3] = [1, 4, 5];
+    print(b"1 4 5: ");
+    inspect(&privileged, 3, 0, 8);
+    print(b"1 4: ");
+    inspect(&privileged, 2, 0, 8);
+    print(b"1: ");
+    inspect(&privileged, 1, 0, 8);
+    print(b"empty: ");
+    inspect(&privileged, 0, 0, 8);
+    print(b"1 4 5, permission 1: ");
+    inspect(&privileged, 3, 1, 8);
+    let unreachable: [u16; 2] = [1, 5];
+    print(b"1 5, which no run reaches: ");
+    inspect(&unreachable, 2, 0, 8);
+}
+
+fn show_bad_input() {
+    let stack: [u16; 3] = [1, 4, 8];
+    print(b"node 8 under the height: ");
+    inspect(&stack, 3, 0, 8);
+    print(b"node 8 above the height: ");
+    inspect(&stack, 2, 0, 8);
+    print(b"height 4 of 3: ");
+    inspect(&stack, 4, 0, 8);
+    print(b"the largest height: ");
+    inspect(&stack, usize::MAX, 0, 8);
+    print(b"permission 2: ");
+    inspect(&stack, 2, 2, 8);
+    print(b"permission 2 and node 8: ");
+    inspect(&stack, 3, 2, 8);
+    print(b"the largest permission: ");
+    inspect(&stack, 2, usize::MAX, 8);
+    print(b"seven sets: ");
+    inspect(&stack, 2, 0, 7);
+    let high = [4u16; 1025];
+    print(b"a slice of 1025: ");
+    inspect(&high, 1, 0, 8);
+    print(b"1024 frames: ");
+    inspect(&high[0..1024], 1024, 0, 8);
+    let callers = [0u16; 1024];
+    print(b"1024 frames to the bottom: ");
+    inspect(&callers, 1024, 0, 8);
+}
+
+fn main() {
+    show_gateway();
+    show_bad_input();
+}

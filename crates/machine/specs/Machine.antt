@@ -4,6 +4,7 @@ pub mod Inspections
 pub mod Looking
 pub mod Frames
 pub mod Demand3
+pub mod Gateway
 use Prim.Native.Nat.{ℕ, zero, suc, _<_, _≤_}
 use mathlib.Core.Path.{_≡_}
 use mathlib.Core.List.{List, [], _∷_}

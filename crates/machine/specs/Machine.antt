@@ -2,6 +2,7 @@
 -- demand 3 are in the modules below. A stack is a list of node numbers here, top first, and may be of any height.
 pub mod Inspections
 pub mod Looking
+pub mod Slices
 pub mod Frames
 pub mod Demand3
 pub mod Gateway

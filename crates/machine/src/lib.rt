@@ -10,12 +10,25 @@ ghost use Rattle.graph.specs.Graph.{graphOf};
 ghost use Rattle.machine.specs.Machine.{stackOf, quick};
 ghost use Rattle.machine.specs.Machine.Inspections.{fullBy};
 ghost use Rattle.machine.specs.Inspect.{Says-so, Frame, StackFits, FullAnswers, QuickAnswers};
+ghost use Rattle.machine.specs.Steps.{Joins, JoinsAt, Linked, Placed, DeniedBy, Takes, Steps};
 
 // Whether the permission passes, with how many frames were looked at, the deciding one included.
 pub enum Inspection {
     Passes(usize),
     Fails(usize),
     Refused(Refusal),
+}
+
+// The stack's new height.
+pub enum Stepped {
+    Moved(usize),
+    Refused(Refusal),
+}
+
+// Where a step writes the next node.
+enum Place {
+    At(usize),
+    Nowhere,
 }
 
 // The first frame that is no node, or height.
@@ -188,4 +201,198 @@ pub fn quick(
         return Inspection::Refused(Refusal::Stack);
     }
     look_quick(denied, granted, stack, height, p)
+}
+
+fn joins(from: u16, to: u16, way: u8, call: bool, a: usize, b: usize) -> bool
+    ensures { λ r. ⌜ Says (Joins from to way call a b) r ⌝ }
+{
+    if from as usize != a {
+        return false;
+    }
+    if to as usize != b {
+        return false;
+    }
+    if way == 0 {
+        return call;
+    }
+    !call
+}
+
+// The first edge that joins a to b, or how many edges there are.
+fn first_joining(froms: &[u16], tos: &[u16], ways: &[u8], call: bool, a: usize, b: usize) -> usize
+    requires { ⌜ (length (now tos) ≡ length (now froms)) × (length (now ways) ≡ length (now froms)) ⌝ }
+    ensures { λ r. ⌜ First (λ i. JoinsAt (now (froms .entry)) (now (tos .entry)) (now (ways .entry)) call a b i → ⊥) (length (now (froms .entry))) r ⌝ }
+{
+    let mut i = 0;
+    while i < froms.len() {
+        if joins(froms[i], tos[i], ways[i], call, a, b) {
+            return i;
+        }
+        i += 1;
+    }
+    i
+}
+
+// Whether an edge joins a to b.
+fn leads(froms: &[u16], tos: &[u16], ways: &[u8], call: bool, a: usize, b: usize) -> bool
+    requires { ⌜ (length (now tos) ≡ length (now froms)) × (length (now ways) ≡ length (now froms)) ⌝ }
+    ensures { λ r. ⌜ Says (Linked (now (froms .entry)) (now (tos .entry)) (now (ways .entry)) call a b) r ⌝ }
+{
+    first_joining(froms, tos, ways, call, a, b) < froms.len()
+}
+
+// Where a rule writes the next node, inspection set aside.
+fn find_place(
+    kinds: &[u8],
+    entries: &[u8],
+    froms: &[u16],
+    tos: &[u16],
+    ways: &[u8],
+    stack: &[u16],
+    height: usize,
+    next: usize,
+) -> Place
+    requires { ⌜ (length (now tos) ≡ length (now froms)) × (length (now ways) ≡ length (now froms)) × (next < length (now entries)) × (height ≤ length (now stack)) ⌝ }
+    requires { ⌜ All (Frame (length (now kinds)) (now stack)) height ⌝ }
+    ensures { λ r. ⌜ Placed (now (kinds .entry)) (now (entries .entry)) (now (froms .entry)) (now (tos .entry)) (now (ways .entry)) (now (stack .entry)) height next r ⌝ }
+{
+    if height == 0 {
+        if entries[next] == 1 {
+            return Place::At(0);
+        }
+        return Place::Nowhere;
+    }
+    let top = stack[height - 1] as usize;
+    let kind = kinds[top];
+    if kind == 0 {
+        if leads(froms, tos, ways, true, top, next) {
+            return Place::At(height);
+        }
+        return Place::Nowhere;
+    }
+    if kind == 2 {
+        if leads(froms, tos, ways, false, top, next) {
+            return Place::At(height - 1);
+        }
+        return Place::Nowhere;
+    }
+    if kind != 1 {
+        return Place::Nowhere;
+    }
+    if height < 2 {
+        return Place::Nowhere;
+    }
+    let lower = stack[height - 2] as usize;
+    if leads(froms, tos, ways, false, lower, next) {
+        return Place::At(height - 2);
+    }
+    Place::Nowhere
+}
+
+// Whether the check on top is denied.
+fn top_denied(
+    kinds: &[u8],
+    checks: &[u16],
+    privileged: &[u8],
+    grants: &[u64],
+    stack: &[u16],
+    height: usize,
+) -> bool
+    requires { ⌜ (height ≤ length (now stack)) × (height ≤ 1024) × (length (now privileged) ≡ length (now grants)) × (length (now kinds) ≡ length (now grants)) × (length (now checks) ≡ length (now grants)) ⌝ }
+    requires { ⌜ All (Frame (length (now grants)) (now stack)) height ⌝ }
+    ensures { λ r. ⌜ Says (DeniedBy (now (kinds .entry)) (now (checks .entry)) (now (privileged .entry)) (now (grants .entry)) (now (stack .entry)) height) r ⌝ }
+{
+    if height == 0 {
+        return false;
+    }
+    let top = stack[height - 1] as usize;
+    if kinds[top] != 2 {
+        return false;
+    }
+    match look_full(privileged, grants, stack, height, checks[top] as usize) {
+        Inspection::Passes(looked) => false,
+        Inspection::Fails(looked) => true,
+        Inspection::Refused(why) => false,
+    }
+}
+
+// The step, once its place is known.
+fn move_to(
+    stack: &mut [u16],
+    height: usize,
+    next: usize,
+    place: usize,
+    kinds: &[u8],
+    checks: &[u16],
+    privileged: &[u8],
+    grants: &[u64],
+) -> Stepped
+    requires { ⌜ (height ≤ length (now stack)) × (height ≤ 1024) × (length (now privileged) ≡ length (now grants)) × (length (now kinds) ≡ length (now grants)) × (length (now checks) ≡ length (now grants)) × (next < 65536) × (place ≤ 1024) ⌝ }
+    requires { ⌜ All (Frame (length (now grants)) (now stack)) height ⌝ }
+    ensures { λ r. ⌜ Takes (DeniedBy (now (kinds .entry)) (now (checks .entry)) (now (privileged .entry)) (now (grants .entry)) (now (stack .entry)) height) (now (stack .entry)) next place r (now (stack .exit)) ⌝ }
+{
+    if top_denied(kinds, checks, privileged, grants, stack, height) {
+        return Stepped::Refused(Refusal::Denied);
+    }
+    if stack.len() <= place {
+        return Stepped::Refused(Refusal::NoRoom);
+    }
+    stack[place] = next as u16;
+    Stepped::Moved(place + 1)
+}
+
+// Takes the step that names the next node, or refuses.
+pub fn step(
+    k: usize,
+    n: usize,
+    m: usize,
+    kinds: &[u8],
+    checks: &[u16],
+    privileged: &[u8],
+    entries: &[u8],
+    grants: &[u64],
+    froms: &[u16],
+    tos: &[u16],
+    ways: &[u8],
+    stack: &mut [u16],
+    height: usize,
+    next: usize,
+) -> Stepped
+    ensures { λ r. ⌜ Steps (graphOf k n m (now (kinds .entry)) (now (checks .entry)) (now (privileged .entry)) (now (entries .entry)) (now (grants .entry)) (now (froms .entry)) (now (tos .entry)) (now (ways .entry))) (now (stack .entry)) height next r (now (stack .exit)) ⌝ }
+{
+    let judged = graph::check(
+        k,
+        n,
+        m,
+        kinds,
+        checks,
+        privileged,
+        entries,
+        grants,
+        froms,
+        tos,
+        ways,
+    );
+    if let Judged::Refused(why) = judged {
+        return Stepped::Refused(why);
+    }
+    if n <= next {
+        return Stepped::Refused(Refusal::Asked);
+    }
+    if !stack_fits(n, stack, height) {
+        return Stepped::Refused(Refusal::Stack);
+    }
+    match find_place(kinds, entries, froms, tos, ways, stack, height, next) {
+        Place::Nowhere => Stepped::Refused(Refusal::NoRule),
+        Place::At(place) => move_to(
+            stack,
+            height,
+            next,
+            place,
+            kinds,
+            checks,
+            privileged,
+            grants,
+        ),
+    }
 }

@@ -1,7 +1,8 @@
 // What full and quick inspection answer on stacks of the worked gateway, by the sets that the solver stores for it, and how many frames
-// each looked at; then bad input. Stacks are written bottom first.
+// each looked at; then bad input; then steps. Stacks are written bottom first.
 use libc::STDOUT_FILENO;
 use machine::Inspection;
+use machine::Stepped;
 ghost use Prim.Native.Nat.{_≤_};
 
 fn print(text: &[u8]) {
@@ -158,7 +159,122 @@ fn show_bad_input() {
     inspect(&callers, 1024, 0, 8);
 }
 
+// A step of the worked gateway: the new height and the node at its top, or the refusal and the node that is still at the place.
+fn take(stack: &mut [u16], height: usize, next: usize) {
+    let kinds: [u8; 8] = [0, 0, 2, 1, 0, 2, 1, 1];
+    let checks: [u16; 8] = [0, 0, 0, 0, 0, 0, 0, 0];
+    let privileged: [u8; 8] = [0, 0, 0, 0, 1, 0, 0, 0];
+    let entries: [u8; 8] = [1, 1, 0, 0, 0, 0, 0, 0];
+    let grants: [u64; 8] = [3, 2, 3, 3, 3, 3, 3, 2];
+    let froms: [u16; 8] = [0, 1, 2, 1, 4, 5, 4, 1];
+    let tos: [u16; 8] = [2, 2, 3, 4, 5, 6, 6, 7];
+    let ways: [u8; 8] = [0, 0, 1, 0, 0, 1, 1, 1];
+    let answer = machine::step(
+        2,
+        8,
+        8,
+        &kinds,
+        &checks,
+        &privileged,
+        &entries,
+        &grants,
+        &froms,
+        &tos,
+        &ways,
+        stack,
+        height,
+        next,
+    );
+    match answer {
+        Stepped::Moved(reached) => {
+            print(b"height ");
+            print_number(reached);
+        }
+        Stepped::Refused(why) => {
+            print(b"refused ");
+            print_number(why.number());
+        }
+    }
+    print(b"\n");
+}
+
+fn show_place(node: u16) {
+    print(b" ");
+    print_number(node as usize);
+}
+
+fn show_places(a: u16, b: u16, c: u16, d: u16) {
+    print(b"  the slice:");
+    show_place(a);
+    show_place(b);
+    show_place(c);
+    show_place(d);
+    print(b"\n");
+}
+
+// A run through the privileged reader and back, in a slice of four places.
+fn show_run() {
+    let mut stack = [7u16; 4];
+    print(b"enter 1: ");
+    take(&mut stack, 0, 1);
+    print(b"call 4: ");
+    take(&mut stack, 1, 4);
+    print(b"call 5: ");
+    take(&mut stack, 2, 5);
+    show_places(stack[0], stack[1], stack[2], stack[3]);
+    print(b"past the check to 6: ");
+    take(&mut stack, 3, 6);
+    show_places(stack[0], stack[1], stack[2], stack[3]);
+    print(b"return to 6: ");
+    take(&mut stack, 3, 6);
+    show_places(stack[0], stack[1], stack[2], stack[3]);
+    print(b"return to 7: ");
+    take(&mut stack, 2, 7);
+    show_places(stack[0], stack[1], stack[2], stack[3]);
+    print(b"a lone return: ");
+    take(&mut stack, 1, 7);
+    show_places(stack[0], stack[1], stack[2], stack[3]);
+}
+
+fn show_refused_steps() {
+    let mut stack: [u16; 4] = [1, 2, 7, 8];
+    print(b"enter 2, no entry: ");
+    take(&mut stack, 0, 2);
+    print(b"call 3, no edge: ");
+    take(&mut stack, 1, 3);
+    print(b"call 7, a transfer edge: ");
+    take(&mut stack, 1, 7);
+    print(b"past the denied check to 3: ");
+    take(&mut stack, 2, 3);
+    print(b"past the denied check to 4, no edge: ");
+    take(&mut stack, 2, 4);
+    print(b"node 8 on top: ");
+    take(&mut stack, 4, 7);
+    print(b"next node 8: ");
+    take(&mut stack, 1, 8);
+    print(b"the largest next node: ");
+    take(&mut stack, 1, usize::MAX);
+    print(b"height 5 of 4: ");
+    take(&mut stack, 5, 7);
+    show_places(stack[0], stack[1], stack[2], stack[3]);
+}
+
+fn show_room() {
+    let mut room = [1u16; 1024];
+    print(b"push at height 1023 of 1024: ");
+    take(&mut room, 1023, 4);
+    let mut none = [1u16; 1024];
+    print(b"push at height 1024 of 1024: ");
+    take(&mut none, 1024, 4);
+    let mut long = [1u16; 1025];
+    print(b"a slice of 1025: ");
+    take(&mut long, 1, 4);
+}
+
 fn main() {
     show_gateway();
     show_bad_input();
+    show_run();
+    show_refused_steps();
+    show_room();
 }

@@ -10,7 +10,8 @@ ghost use Rattle.graph.specs.Graph.{graphOf};
 ghost use Rattle.machine.specs.Machine.{stackOf, quick};
 ghost use Rattle.machine.specs.Machine.Inspections.{fullBy};
 ghost use Rattle.machine.specs.Inspect.{Says-so, Frame, StackFits, FullAnswers, QuickAnswers};
-ghost use Rattle.machine.specs.Steps.{Joins, JoinsAt, Linked, Placed, DeniedBy, Takes, Steps};
+ghost use Rattle.machine.specs.Steps.{Steps};
+ghost use Rattle.machine.specs.Steps.Numbers.{Joins, JoinsAt, Linked, Placed, DeniedBy, Takes};
 
 // Whether the permission passes, with how many frames were looked at, the deciding one included.
 pub enum Inspection {

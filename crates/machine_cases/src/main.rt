@@ -5,6 +5,23 @@ use machine::Inspection;
 use machine::Stepped;
 ghost use Prim.Native.Nat.{_≤_};
 
+// The worked gateway.
+const KINDS: [u8; 8] = [0, 0, 2, 1, 0, 2, 1, 1];
+
+const CHECKS: [u16; 8] = [0, 0, 0, 0, 0, 0, 0, 0];
+
+const PRIVILEGED: [u8; 8] = [0, 0, 0, 0, 1, 0, 0, 0];
+
+const ENTRIES: [u8; 8] = [1, 1, 0, 0, 0, 0, 0, 0];
+
+const GRANTS: [u64; 8] = [3, 2, 3, 3, 3, 3, 3, 2];
+
+const FROMS: [u16; 8] = [0, 1, 2, 1, 4, 5, 4, 1];
+
+const TOS: [u16; 8] = [2, 2, 3, 4, 5, 6, 6, 7];
+
+const WAYS: [u8; 8] = [0, 0, 1, 0, 0, 1, 1, 1];
+
 fn print(text: &[u8]) {
     io::write_all(STDOUT_FILENO, text);
 }
@@ -38,14 +55,6 @@ fn at_most(n: usize, most: usize) -> usize
 
 // Both inspections for permission p, the quick one by the first `sets` of the stored sets.
 fn inspect(stack: &[u16], height: usize, p: usize, sets: usize) {
-    let kinds: [u8; 8] = [0, 0, 2, 1, 0, 2, 1, 1];
-    let checks: [u16; 8] = [0, 0, 0, 0, 0, 0, 0, 0];
-    let privileged: [u8; 8] = [0, 0, 0, 0, 1, 0, 0, 0];
-    let entries: [u8; 8] = [1, 1, 0, 0, 0, 0, 0, 0];
-    let grants: [u64; 8] = [3, 2, 3, 3, 3, 3, 3, 2];
-    let froms: [u16; 8] = [0, 1, 2, 1, 4, 5, 4, 1];
-    let tos: [u16; 8] = [2, 2, 3, 4, 5, 6, 6, 7];
-    let ways: [u8; 8] = [0, 0, 1, 0, 0, 1, 1, 1];
     let mut denied = [7u64; 8];
     let mut granted = [7u64; 8];
     let mut may = [7u64; 8];
@@ -54,14 +63,14 @@ fn inspect(stack: &[u16], height: usize, p: usize, sets: usize) {
         2,
         8,
         8,
-        &kinds,
-        &checks,
-        &privileged,
-        &entries,
-        &grants,
-        &froms,
-        &tos,
-        &ways,
+        &KINDS,
+        &CHECKS,
+        &PRIVILEGED,
+        &ENTRIES,
+        &GRANTS,
+        &FROMS,
+        &TOS,
+        &WAYS,
         &mut denied,
         &mut granted,
         &mut may,
@@ -72,14 +81,14 @@ fn inspect(stack: &[u16], height: usize, p: usize, sets: usize) {
         2,
         8,
         8,
-        &kinds,
-        &checks,
-        &privileged,
-        &entries,
-        &grants,
-        &froms,
-        &tos,
-        &ways,
+        &KINDS,
+        &CHECKS,
+        &PRIVILEGED,
+        &ENTRIES,
+        &GRANTS,
+        &FROMS,
+        &TOS,
+        &WAYS,
         stack,
         height,
         p,
@@ -90,14 +99,14 @@ fn inspect(stack: &[u16], height: usize, p: usize, sets: usize) {
         2,
         8,
         8,
-        &kinds,
-        &checks,
-        &privileged,
-        &entries,
-        &grants,
-        &froms,
-        &tos,
-        &ways,
+        &KINDS,
+        &CHECKS,
+        &PRIVILEGED,
+        &ENTRIES,
+        &GRANTS,
+        &FROMS,
+        &TOS,
+        &WAYS,
         &denied[0..long],
         &granted[0..long],
         stack,
@@ -161,26 +170,18 @@ fn show_bad_input() {
 
 // A step of the worked gateway: the new height and the node at its top, or the refusal and the node that is still at the place.
 fn take(stack: &mut [u16], height: usize, next: usize) {
-    let kinds: [u8; 8] = [0, 0, 2, 1, 0, 2, 1, 1];
-    let checks: [u16; 8] = [0, 0, 0, 0, 0, 0, 0, 0];
-    let privileged: [u8; 8] = [0, 0, 0, 0, 1, 0, 0, 0];
-    let entries: [u8; 8] = [1, 1, 0, 0, 0, 0, 0, 0];
-    let grants: [u64; 8] = [3, 2, 3, 3, 3, 3, 3, 2];
-    let froms: [u16; 8] = [0, 1, 2, 1, 4, 5, 4, 1];
-    let tos: [u16; 8] = [2, 2, 3, 4, 5, 6, 6, 7];
-    let ways: [u8; 8] = [0, 0, 1, 0, 0, 1, 1, 1];
     let answer = machine::step(
         2,
         8,
         8,
-        &kinds,
-        &checks,
-        &privileged,
-        &entries,
-        &grants,
-        &froms,
-        &tos,
-        &ways,
+        &KINDS,
+        &CHECKS,
+        &PRIVILEGED,
+        &ENTRIES,
+        &GRANTS,
+        &FROMS,
+        &TOS,
+        &WAYS,
         stack,
         height,
         next,

@@ -6,6 +6,23 @@ use solver::Finding;
 use solver::Ruling;
 ghost use Prim.Native.Nat.{_≤_};
 
+// The worked gateway.
+const KINDS: [u8; 8] = [0, 0, 2, 1, 0, 2, 1, 1];
+
+const CHECKS: [u16; 8] = [0, 0, 0, 0, 0, 0, 0, 0];
+
+const PRIVILEGED: [u8; 8] = [0, 0, 0, 0, 1, 0, 0, 0];
+
+const ENTRIES: [u8; 8] = [1, 1, 0, 0, 0, 0, 0, 0];
+
+const GRANTS: [u64; 8] = [3, 2, 3, 3, 3, 3, 3, 2];
+
+const FROMS: [u16; 8] = [0, 1, 2, 1, 4, 5, 4, 1];
+
+const TOS: [u16; 8] = [2, 2, 3, 4, 5, 6, 6, 7];
+
+const WAYS: [u8; 8] = [0, 0, 1, 0, 0, 1, 1, 1];
+
 fn print(text: &[u8]) {
     io::write_all(STDOUT_FILENO, text);
 }
@@ -202,14 +219,6 @@ fn show_solved(
 }
 
 fn show_gateway() {
-    let kinds: [u8; 8] = [0, 0, 2, 1, 0, 2, 1, 1];
-    let checks: [u16; 8] = [0, 0, 0, 0, 0, 0, 0, 0];
-    let privileged: [u8; 8] = [0, 0, 0, 0, 1, 0, 0, 0];
-    let entries: [u8; 8] = [1, 1, 0, 0, 0, 0, 0, 0];
-    let grants: [u64; 8] = [3, 2, 3, 3, 3, 3, 3, 2];
-    let froms: [u16; 8] = [0, 1, 2, 1, 4, 5, 4, 1];
-    let tos: [u16; 8] = [2, 2, 3, 4, 5, 6, 6, 7];
-    let ways: [u8; 8] = [0, 0, 1, 0, 0, 1, 1, 1];
     let mut denied = [7u64; 8];
     let mut granted = [7u64; 8];
     let mut may = [7u64; 8];
@@ -218,14 +227,14 @@ fn show_gateway() {
     show_solved(
         8,
         8,
-        &kinds,
-        &checks,
-        &privileged,
-        &entries,
-        &grants,
-        &froms,
-        &tos,
-        &ways,
+        &KINDS,
+        &CHECKS,
+        &PRIVILEGED,
+        &ENTRIES,
+        &GRANTS,
+        &FROMS,
+        &TOS,
+        &WAYS,
         &mut denied,
         &mut granted,
         &mut may,
@@ -464,13 +473,8 @@ fn show_kept(denied: &[u64; 9], granted: &[u64; 9], may: &[u64; 9], sure: &[u64;
 // of another length, at most 9. Result slices are counted from 0 in the order of the call.
 fn solve_spoilt(kind: u8, to: u16, entry: u8, slice: usize, len: usize) {
     let kinds: [u8; 8] = [0, 0, 2, kind, 0, 2, 1, 1];
-    let checks: [u16; 8] = [0, 0, 0, 0, 0, 0, 0, 0];
-    let privileged: [u8; 8] = [0, 0, 0, 0, 1, 0, 0, 0];
     let entries: [u8; 8] = [entry, entry, 0, 0, 0, 0, 0, 0];
-    let grants: [u64; 8] = [3, 2, 3, 3, 3, 3, 3, 2];
-    let froms: [u16; 8] = [0, 1, 2, 1, 4, 5, 4, 1];
     let tos: [u16; 8] = [2, 2, 3, to, 5, 6, 6, 7];
-    let ways: [u8; 8] = [0, 0, 1, 0, 0, 1, 1, 1];
     let mut denied = [7u64; 9];
     let mut granted = [7u64; 9];
     let mut may = [7u64; 9];
@@ -484,13 +488,13 @@ fn solve_spoilt(kind: u8, to: u16, entry: u8, slice: usize, len: usize) {
         8,
         8,
         &kinds,
-        &checks,
-        &privileged,
+        &CHECKS,
+        &PRIVILEGED,
         &entries,
-        &grants,
-        &froms,
+        &GRANTS,
+        &FROMS,
         &tos,
-        &ways,
+        &WAYS,
         &mut denied[0..a],
         &mut granted[0..b],
         &mut may[0..c],
@@ -538,13 +542,6 @@ fn show_spoilt() {
 // in slices of lengths up to 9.
 fn ask(kind: u8, node: usize, denied: u64, granted: u64, denied_len: usize, granted_len: usize) {
     let kinds: [u8; 8] = [0, 0, 2, kind, 0, 2, 1, 1];
-    let checks: [u16; 8] = [0, 0, 0, 0, 0, 0, 0, 0];
-    let privileged: [u8; 8] = [0, 0, 0, 0, 1, 0, 0, 0];
-    let entries: [u8; 8] = [1, 1, 0, 0, 0, 0, 0, 0];
-    let grants: [u64; 8] = [3, 2, 3, 3, 3, 3, 3, 2];
-    let froms: [u16; 8] = [0, 1, 2, 1, 4, 5, 4, 1];
-    let tos: [u16; 8] = [2, 2, 3, 4, 5, 6, 6, 7];
-    let ways: [u8; 8] = [0, 0, 1, 0, 0, 1, 1, 1];
     let all_denied = [denied; 9];
     let all_granted = [granted; 9];
     let a = at_most(denied_len, 9);
@@ -554,13 +551,13 @@ fn ask(kind: u8, node: usize, denied: u64, granted: u64, denied_len: usize, gran
         8,
         8,
         &kinds,
-        &checks,
-        &privileged,
-        &entries,
-        &grants,
-        &froms,
-        &tos,
-        &ways,
+        &CHECKS,
+        &PRIVILEGED,
+        &ENTRIES,
+        &GRANTS,
+        &FROMS,
+        &TOS,
+        &WAYS,
         &all_denied[0..a],
         &all_granted[0..b],
         node,

@@ -1,7 +1,7 @@
 use Prim.Native.Nat.{_-_}
 use native.Mathlib.Omega.{arith}
 use Rattle.machine.specs.Steps.Parts.{no-place}
-use Rattle.machine.specs.Steps.{RuleBy, somewhere}
+use Rattle.machine.specs.Steps.Numbers.{RuleBy, somewhere}
 use Rattle.truth.specs.Truth.Tests.{says-true, says-false}
 use borrow.Author.Needs.{needs}
 use Rattle.machine.proofs.find_place.Statement.{statement}

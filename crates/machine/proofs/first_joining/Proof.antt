@@ -3,7 +3,7 @@ use native.Mathlib.Omega.{arith}
 use lib.ListN.{length}
 use borrow.Author.Needs.{needs}
 use Rattle.truth.specs.Truth.Tests.{Passed, passed-none, passed-more, passed-stop, passed-end, says-true, says-false}
-use Rattle.machine.specs.Steps.{JoinsAt}
+use Rattle.machine.specs.Steps.Numbers.{JoinsAt}
 use Rattle.machine.proofs.first_joining.Statement.{statement}
 use Rattle.machine.proofs.first_joining.Tie as tie
 

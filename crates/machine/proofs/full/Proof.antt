@@ -48,9 +48,11 @@ look-full-requires c κs =
 returns-4 : tie.Need-returns-4
 returns-4 c =
     FullAnswers.looked {a = c .look-full .result}
-    (accepted-is (rw (c .before .before .before .before .enum-told .given .1) at (c .before .before .before .before .before .before .check .ensures)))
-    (omega arith)
-    (says-true (c .before .before .stack-fits .ensures) (not-false _ (c .before .if2 .left)))
+    (record {
+      acceptable = accepted-is (rw (c .before .before .before .before .enum-told .given .1) at (c .before .before .before .before .before .before .check .ensures));
+      below = omega arith;
+      fits = says-true (c .before .before .stack-fits .ensures) (not-false _ (c .before .if2 .left));
+    })
     (rw (full-by _ _ _) (c .look-full .ensures))
 
 pub full-spec : {M : Type 1} → statement M

@@ -57,9 +57,11 @@ returns-5 : tie.Need-returns-5
 returns-5 c =
     QuickAnswers.looked
     (says-true (c .before .before .before .before .before .before .before .before .sets-long .ensures) (not-false _ (c .before .before .before .before .before .before .before .if1 .left)))
-    (accepted-is (rw (c .before .before .before .before .enum-told .given .1) at (c .before .before .before .before .before .before .check .ensures)))
-    (omega arith)
-    (says-true (c .before .before .stack-fits .ensures) (not-false _ (c .before .if3 .left)))
+    (record {
+      acceptable = accepted-is (rw (c .before .before .before .before .enum-told .given .1) at (c .before .before .before .before .before .before .check .ensures));
+      below = omega arith;
+      fits = says-true (c .before .before .stack-fits .ensures) (not-false _ (c .before .if3 .left));
+    })
     (c .look-quick .ensures)
 
 pub quick-spec : {M : Type 1} → statement M

@@ -4,6 +4,7 @@ use borrow.Author.Tests.{not-true, not-false}
 use Rattle.truth.specs.Truth.Tests.{says-true, says-false}
 use Rattle.graph.specs.Judge.Laws.{accepted-is, refused-is}
 use Rattle.machine.specs.Steps.Rules.{nowhere-refuses, takes-steps, place-low}
+use Rattle.machine.specs.Inspect.{graph, asked, stack}
 use Rattle.machine.specs.Steps.{Steps, StepRefuses}
 use borrow.Author.Needs.{needs}
 use Rattle.machine.proofs.step.Statement.{statement}
@@ -16,13 +17,13 @@ enum-known-judged : tie.Need-enum-known-judged
 enum-known-judged c = search needs
 
 returns : tie.Need-returns
-returns c = Steps.refused (StepRefuses.graph (refused-is (rw (c .before .judged .given .1) at (c .before .before .before .check .ensures))))
+returns c = Steps.refused (StepRefuses.asks (graph (refused-is (rw (c .before .judged .given .1) at (c .before .before .before .check .ensures)))))
 
 enum-told : tie.Need-enum-told
 enum-told c = search needs
 
 returns-2 : tie.Need-returns-2
-returns-2 c = Steps.refused (StepRefuses.asked (accepted-is (rw (c .before .enum-told .given .1) at (c .before .before .before .check .ensures))) (λ h. omega arith))
+returns-2 c = Steps.refused (StepRefuses.asks (asked (accepted-is (rw (c .before .enum-told .given .1) at (c .before .before .before .check .ensures))) (λ h. omega arith)))
 
 stack-fits-requires : tie.Need-stack-fits-requires
 stack-fits-requires c κs = search needs
@@ -31,7 +32,7 @@ same-length : tie.Need-same-length
 same-length c = search needs
 
 returns-3 : tie.Need-returns-3
-returns-3 c = Steps.refused (StepRefuses.stack (accepted-is (rw (c .before .before .before .before .enum-told .given .1) at (c .before .before .before .before .before .before .check .ensures))) (omega arith) (says-false (c .before .stack-fits .ensures) (not-true _ (c .if2 .taken))))
+returns-3 c = Steps.refused (StepRefuses.asks (stack (accepted-is (rw (c .before .before .before .before .enum-told .given .1) at (c .before .before .before .before .before .before .check .ensures))) (omega arith) (says-false (c .before .stack-fits .ensures) (not-true _ (c .if2 .taken)))))
 
 find-place-requires : tie.Need-find-place-requires
 find-place-requires c κs =
@@ -62,7 +63,7 @@ returns-4 : tie.Need-returns-4
 returns-4 c =
     let a = accepted-is (rw (c .before .before .before .before .before .before .before .before .enum-told .given .1) at (c .before .before .before .before .before .before .before .before .before .before .check .ensures)) in
     let f = says-true (c .before .before .before .before .before .stack-fits .ensures) (not-false _ (c .before .before .before .before .if2 .left)) in
-    Steps.refused (nowhere-refuses _ a (record { acceptable = a; low = omega arith; fits = f }) (rw (c .enum-told2 .given .1) at (c .before .before .find-place .ensures)))
+    Steps.refused (nowhere-refuses _ a (record { acceptable = a; below = omega arith; fits = f }) (rw (c .enum-told2 .given .1) at (c .before .before .find-place .ensures)))
 
 same-length-3 : tie.Need-same-length-3
 same-length-3 c = search needs
@@ -71,7 +72,7 @@ returns-5 : tie.Need-returns-5
 returns-5 c =
     let a = accepted-is (rw (c .before .before .before .before .before .before .before .before .before .before .before .before .before .enum-told .given .1) at (c .before .before .before .before .before .before .before .before .before .before .before .before .before .before .before .check .ensures)) in
     let f = says-true (c .before .before .before .before .before .before .before .before .before .before .stack-fits .ensures) (not-false _ (c .before .before .before .before .before .before .before .before .before .if2 .left)) in
-    takes-steps _ a (record { acceptable = a; low = omega arith; fits = f }) (rw (c .before .before .before .before .before .place .given .1) at (c .before .before .before .before .before .before .before .find-place .ensures)) (c .before .before .move-to .ensures)
+    takes-steps _ a (record { acceptable = a; below = omega arith; fits = f }) (rw (c .before .before .before .before .before .place .given .1) at (c .before .before .before .before .before .before .before .find-place .ensures)) (c .before .before .move-to .ensures)
 
 pub step-spec : {M : Type 1} → statement M
 step-spec =

@@ -47,10 +47,10 @@ module _ (g : Graph) {before x : Slices} (stored : Solves g before Accepted x) w
     pub quick-returns-full : {q f : Inspection} → QuickAnswers g (x .denied) (x .granted) stack height p q → FullAnswers g stack height p f → Returns q f
     quick-returns-full (QuickAnswers.sets d e) k = absurd (d long)
     quick-returns-full (QuickAnswers.refused {r = a} l d) (FullAnswers.refused {r = b} k) =
-        rw (numbered-one a b (refusal-one g stack height p d k)) refuse
-    quick-returns-full (QuickAnswers.refused l d) (FullAnswers.looked a k s f) = absurd (refusal-not g stack height p d a k s)
-    quick-returns-full (QuickAnswers.looked l a k s q) (FullAnswers.refused d) = absurd (refusal-not g stack height p d a k s)
-    quick-returns-full (QuickAnswers.looked l a k s q) (FullAnswers.looked b j t f) = returns-by q f (demand3 g a x (content .1) h p k)
+        rw (numbered-one a b (refusal-one g d k)) refuse
+    quick-returns-full (QuickAnswers.refused l d) (FullAnswers.looked a f) = absurd (refusal-not g d a)
+    quick-returns-full (QuickAnswers.looked l a q) (FullAnswers.refused d) = absurd (refusal-not g d a)
+    quick-returns-full (QuickAnswers.looked l a q) (FullAnswers.looked b f) = returns-by q f (demand3 g (a .acceptable) x (content .1) h p (a .below))
 
   -- What `verdict` returned of the check n, on every reachable stack with n on top, of any height.
   module _ {n : ℕ} {r : List ℕ} (h : Reachable g (n ∷ r)) where

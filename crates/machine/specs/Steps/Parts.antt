@@ -17,7 +17,8 @@ use Rattle.machine.specs.Inspect.{Says-so, passes, fails}
 use Rattle.truth.specs.Truth.Bools.{clash}
 use Rattle.truth.specs.Truth.Tests.{says-by, eq?}
 use Rattle.machine.specs.declared.Place.the-variants.{Nowhere}
-use Rattle.machine.specs.Steps.{Joins, JoinsAt, Linked, top, lower, RuleBy, Placed, nowhere}
+use Rattle.machine.specs.Steps.{top, lower}
+use Rattle.machine.specs.Steps.Numbers.{Joins, JoinsAt, Linked, RuleBy, Placed, nowhere}
 
 -- ---- whether an edge joins
 

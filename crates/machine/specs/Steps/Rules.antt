@@ -12,7 +12,9 @@ use Rattle.machine.specs.declared.Place.the-variants.{At, Nowhere}
 use Rattle.machine.specs.declared.Stepped.{Stepped}
 use Rattle.machine.specs.Machine.{stackOf, Leads}
 use Rattle.machine.specs.Machine.Inspections.{full-by}
-use Rattle.machine.specs.Steps.{Linked, top, Rule, RuleBy, Placed, somewhere, nowhere, Denied, DeniedBy, Asks, StepRefuses, Steps, Takes, denies, lacks-room, moves}
+use Rattle.machine.specs.Inspect.{Asks}
+use Rattle.machine.specs.Steps.{top, Rule, Denied, StepRefuses, Steps}
+use Rattle.machine.specs.Steps.Numbers.{Linked, RuleBy, Placed, somewhere, nowhere, DeniedBy, Takes, denies, lacks-room, moves}
 
 module _ (g : Graph) (acc : Acceptable g) where
   linked-leads : {c : Bool} {a b : ℕ} → Linked (g .froms) (g .tos) (g .ways) c a b → Leads g c a b
@@ -63,10 +65,10 @@ module _ (g : Graph) (acc : Acceptable g) where
     rule-by (Rule.back l k j) = RuleBy.back l (sym (kind-code g (top stack height) 0) ∙ k) (leads-linked j)
 
     -- no place was found; a place was found, and the rest of the step taken
-    pub nowhere-refuses : Asks g stack height next → Placed (g .kinds) (g .entries) (g .froms) (g .tos) (g .ways) stack height next Nowhere → StepRefuses g stack height next (8 at 0)
+    pub nowhere-refuses : Asks g (next < g .n) stack height → Placed (g .kinds) (g .entries) (g .froms) (g .tos) (g .ways) stack height next Nowhere → StepRefuses g stack height next (8 at 0)
     nowhere-refuses a (nowhere d) = StepRefuses.no-rule a (λ p u. d p (rule-by u))
 
-    pub takes-steps : {p : ℕ} {r : Stepped} {after : List ℕ} → Asks g stack height next → Placed (g .kinds) (g .entries) (g .froms) (g .tos) (g .ways) stack height next (At p)
+    pub takes-steps : {p : ℕ} {r : Stepped} {after : List ℕ} → Asks g (next < g .n) stack height → Placed (g .kinds) (g .entries) (g .froms) (g .tos) (g .ways) stack height next (At p)
         → Takes (DeniedBy (g .kinds) (g .checks) (g .privileged) (g .grants) stack height) stack next p r after → Steps g stack height next r after
     takes-steps a (somewhere u) (denies d) = Steps.refused (StepRefuses.check-denied a (rule-of u) (denied-of d))
     takes-steps a (somewhere u) (lacks-room d l) = Steps.refused (StepRefuses.no-room a (rule-of u) (λ e. d (denied-by e)) l)

@@ -12,7 +12,8 @@ use Rattle.graph.specs.Graph.Code.{kind-code, isCheck-code}
 use Rattle.machine.specs.declared.Stepped.the-variants as answer
 use Rattle.machine.specs.Machine.{stackOf, full, Step}
 use Rattle.machine.specs.Machine.Slices.{bare, written, topped, topped-twice, height-of, has-top, its-top, its-rest}
-use Rattle.machine.specs.Steps.{top, Rule, Denied, Asks, Steps}
+use Rattle.machine.specs.Inspect.{Asks}
+use Rattle.machine.specs.Steps.{top, Rule, Denied, Steps}
 
 step-by : {g : Graph} {a b c d : List ℕ} → a ≡ c → b ≡ d → Step g c d → Step g a b
 step-by p q s = rw (p, q) s
@@ -29,7 +30,7 @@ module _ (g : Graph) (st : List ℕ) (height next : ℕ) where
 
   -- what the call returned and stored is a step
   pub step-sound : {h : ℕ} {after : List ℕ} → Steps g st height next (answer.Moved h) after → Step g (stackOf st height) (stackOf after h)
-  step-sound (Steps.moved k u d l) = taken (k .low) u d l
+  step-sound (Steps.moved k u d l) = taken (k .below) u d l
 
 -- ---- every step of the rules is one that the call takes, where the slice has the place
 
@@ -80,7 +81,7 @@ module _ (g : Graph) (st : List ℕ) (height : ℕ) where
   pub step-complete : {t : List ℕ} → Step g (stackOf st height) t → Can t
   step-complete s = can s refl
 
-  pub step-takes : {t : List ℕ} (s : Step g (stackOf st height) t) → Asks g st height (step-complete s .next) → step-complete s .place < length st
+  pub step-takes : {t : List ℕ} (s : Step g (stackOf st height) t) → Asks g (step-complete s .next < g .n) st height → step-complete s .place < length st
       → Steps g st height (step-complete s .next) (answer.Moved (step-complete s .place + 1)) (set st (step-complete s .place) (step-complete s .next))
       × (stackOf (set st (step-complete s .place) (step-complete s .next)) (step-complete s .place + 1) ≡ t)
   step-takes s a l =

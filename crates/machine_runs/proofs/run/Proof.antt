@@ -1,0 +1,57 @@
+use borrow.Author.Needs.{needs}
+use Prim.Native.Nat.{_≤_, _-_}
+use Rattle.machine_runs.proofs.run.Statement.{statement}
+use Rattle.machine_runs.proofs.run.Tie as tie
+
+abbrev Inv-loop : tie.InvT-loop
+Inv-loop tally₀ seed kinds checks privileged entries grants froms tos ways denied granted stack₀ height₀ random₀ i₀ tally stack height random i = i ≤ 100
+
+abbrev μ-loop : tie.MeasureT-loop
+μ-loop tally₀ seed kinds checks privileged entries grants froms tos ways denied granted stack₀ height₀ random₀ i₀ tally stack height random i = 100 - i
+
+loop-holds : tie.Need-loop-holds Inv-loop μ-loop
+loop-holds c = search needs
+
+next-requires : tie.Need-next-requires Inv-loop μ-loop
+next-requires c κs = search needs
+
+pick-requires : tie.Need-pick-requires Inv-loop μ-loop
+pick-requires c κs = search needs
+
+take-requires : tie.Need-take-requires Inv-loop μ-loop
+take-requires c κs = search needs
+
+count-requires : tie.Need-count-requires Inv-loop μ-loop
+count-requires c κs = search needs
+
+inspect-requires : tie.Need-inspect-requires Inv-loop μ-loop
+inspect-requires c κs = search needs
+
+add-i : tie.Need-add-i Inv-loop μ-loop
+add-i c = search needs
+
+loop-less : tie.Need-loop-less Inv-loop μ-loop
+loop-less c = search needs
+
+loop-again : tie.Need-loop-again Inv-loop μ-loop
+loop-again c = search needs
+
+returns : tie.Need-returns Inv-loop μ-loop
+returns c = search needs
+
+pub run-spec : {M : Type 1} → statement M
+run-spec =
+    tie.close
+    (tie.spec
+    Inv-loop
+    μ-loop
+    loop-holds
+    next-requires
+    pick-requires
+    take-requires
+    count-requires
+    inspect-requires
+    add-i
+    loop-less
+    loop-again
+    returns)

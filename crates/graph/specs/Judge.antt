@@ -25,9 +25,12 @@ pub data Judges (g : Graph) : Judged → Type 0 where
 
 -- ---- The same as a computation
 
+abbrev pub rangeTest : (k n m : ℕ) → Bool
+rangeTest k n m = leb 1 k && (leb k 64 && (leb 1 n && (leb n 1024 && leb m 4096)))
+
 unfoldable pub shapeTest : Graph → Bool
 shapeTest g =
-    (leb 1 (g .k) && (leb (g .k) 64 && (leb 1 (g .n) && (leb (g .n) 1024 && leb (g .m) 4096))))
+    rangeTest (g .k) (g .n) (g .m)
     && ((eqb (length (g .kinds)) (g .n) && (eqb (length (g .checks)) (g .n) && (eqb (length (g .privileged)) (g .n) && (eqb (length (g .entries)) (g .n) && eqb (length (g .grants)) (g .n)))))
     && (eqb (length (g .froms)) (g .m) && (eqb (length (g .tos)) (g .m) && eqb (length (g .ways)) (g .m))))
 

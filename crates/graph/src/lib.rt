@@ -202,7 +202,8 @@ fn first_entry(n: usize, entries: &[u8]) -> usize
     i
 }
 
-fn in_range(k: usize, n: usize, m: usize) -> bool
+// Whether K, N and M are in range.
+pub fn in_range(k: usize, n: usize, m: usize) -> bool
     ensures { λ r. ⌜ Says (Ranges k n m) r ⌝ }
 {
     if k < 1 {

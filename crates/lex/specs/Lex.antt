@@ -14,7 +14,7 @@ use Rattle.lex.specs.declared.Class.the-variants.{Plain, Inside, Word}
 use Rattle.lex.specs.declared.Lexed.{Lexed}
 use Rattle.lex.specs.declared.Lexed.the-variants.{More, Last, Bad}
 use Rattle.lex.specs.declared.Piece.{Piece}
-use Rattle.lex.specs.declared.Piece.the-variants.{Part, Wrong}
+use Rattle.lex.specs.declared.Piece.the-variants.{Part, NoPart}
 use Rattle.lex.specs.declared.Decimal.{Decimal}
 use Rattle.lex.specs.declared.Decimal.the-variants.{Value, Not}
 use Rattle.lex.specs.declared.Listed.{Listed}
@@ -57,13 +57,13 @@ fieldAt s at = cond (eqb (getD s at 0) 34) (quotedAt s (at + 1)) (plainAt s at)
 -- A field that a comma follows; a field that a row's end follows.
 abbrev pub beforeComma : Lexed → Piece
 beforeComma (More start end next) = Part start end next
-beforeComma (Last start end next) = Wrong
-beforeComma Bad = Wrong
+beforeComma (Last start end next) = NoPart
+beforeComma Bad = NoPart
 
 abbrev pub beforeEnd : Lexed → Piece
-beforeEnd (More start end next) = Wrong
+beforeEnd (More start end next) = NoPart
 beforeEnd (Last start end next) = Part start end next
-beforeEnd Bad = Wrong
+beforeEnd Bad = NoPart
 
 unfoldable pub commaAt : List ℕ → ℕ → Piece
 commaAt s at = beforeComma (fieldAt s at)

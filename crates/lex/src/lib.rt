@@ -146,7 +146,7 @@ pub enum Piece {
         end: usize,
         next: usize,
     },
-    Wrong,
+    NoPart,
 }
 
 // The field at a position, where a comma follows it.
@@ -159,8 +159,8 @@ pub fn before_comma(s: &[u8], at: usize) -> Piece
             start: _,
             end: _,
             next: _,
-        } => Piece::Wrong,
-        Lexed::Bad => Piece::Wrong,
+        } => Piece::NoPart,
+        Lexed::Bad => Piece::NoPart,
     }
 }
 
@@ -173,9 +173,9 @@ pub fn before_end(s: &[u8], at: usize) -> Piece
             start: _,
             end: _,
             next: _,
-        } => Piece::Wrong,
+        } => Piece::NoPart,
         Lexed::Last { start, end, next } => Piece::Part { start, end, next },
-        Lexed::Bad => Piece::Wrong,
+        Lexed::Bad => Piece::NoPart,
     }
 }
 

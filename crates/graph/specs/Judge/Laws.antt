@@ -11,9 +11,9 @@ use Rattle.truth.specs.Truth.{Says, holds, fails, All, First, first}
 use Rattle.truth.specs.Truth.Tests.{says-same, true-says, false-says, le?, lt?, eq?, and?, or?, if?, not?, first?, first-all, first-one, all-first, first-found}
 use Rattle.truth.specs.Truth.Bools.{by-split}
 use Rattle.sets.specs.Sets.Members.{below-members}
-use Rattle.graph.specs.Graph.{Graph, Shape, NodeRule, EdgeRule, EndsRule, NodeObeys, EdgeObeys, NoEntry, Acceptable}
+use Rattle.graph.specs.Graph.{Graph, Ranges, Shape, NodeRule, EdgeRule, EndsRule, NodeObeys, EdgeObeys, NoEntry, Acceptable}
 use Rattle.graph.specs.Refusals.{Numbered, _at_, numbered, refusal, refusal-numbered}
-use Rattle.graph.specs.Judge.{Refuses, shape, node, edge, entry, Judges, accepted, refused, shapeTest, nodeTest, edgeTest, noEntry, judge}
+use Rattle.graph.specs.Judge.{Refuses, shape, node, edge, entry, Judges, accepted, refused, rangeTest, shapeTest, nodeTest, edgeTest, noEntry, judge}
 use Rattle.graph.specs.declared.Refusal.{Refusal}
 use Rattle.graph.specs.declared.Refusal.the-variants as why
 use Rattle.graph.specs.declared.Judged.{Judged}
@@ -21,23 +21,28 @@ use Rattle.graph.specs.declared.Judged.the-variants.{Accepted, Refused}
 
 -- ---- each test says whether its rule holds
 
+pub range? : (k n m : ℕ) → Says (Ranges k n m) (rangeTest k n m)
+range? k n m =
+    says-same (and? (le? 1 k) (and? (le? k 64) (and? (le? 1 n) (and? (le? n 1024) (le? m 4096)))))
+    (λ x. record { k-low = x .0; k-high = x .1 .0; n-low = x .1 .1 .0; n-high = x .1 .1 .1 .0; m-high = x .1 .1 .1 .1 })
+    (λ r. (r .k-low, (r .k-high, (r .n-low, (r .n-high, r .m-high)))))
+
 shape? : (g : Graph) → Says (Shape g) (shapeTest g)
 unfolding shapeTest
 shape? g =
     says-same
     (and?
-    (and? (le? 1 _) (and? (le? _ 64) (and? (le? 1 _) (and? (le? _ 1024) (le? _ 4096)))))
+    (range? (g .k) (g .n) (g .m))
     (and? (and? (eq? _ _) (and? (eq? _ _) (and? (eq? _ _) (and? (eq? _ _) (eq? _ _))))) (and? (eq? _ _) (and? (eq? _ _) (eq? _ _)))))
     (λ x. record {
-      ranges = record { k-low = x .0 .0; k-high = x .0 .1 .0; n-low = x .0 .1 .1 .0; n-high = x .0 .1 .1 .1 .0; m-high = x .0 .1 .1 .1 .1 };
+      ranges = x .0;
       nodes = record { kinds-long = x .1 .0 .0; checks-long = x .1 .0 .1 .0; privileged-long = x .1 .0 .1 .1 .0; entries-long = x .1 .0 .1 .1 .1 .0; grants-long = x .1 .0 .1 .1 .1 .1 };
       edges = record { froms-long = x .1 .1 .0; tos-long = x .1 .1 .1 .0; ways-long = x .1 .1 .1 .1 };
     })
     (λ s.
-    let r = s .ranges in
     let a = s .nodes in
     let b = s .edges in
-    ((r .k-low, (r .k-high, (r .n-low, (r .n-high, r .m-high)))), ((a .kinds-long, (a .checks-long, (a .privileged-long, (a .entries-long, a .grants-long)))), (b .froms-long, (b .tos-long, b .ways-long)))))
+    (s .ranges, ((a .kinds-long, (a .checks-long, (a .privileged-long, (a .entries-long, a .grants-long)))), (b .froms-long, (b .tos-long, b .ways-long)))))
 
 node? : (g : Graph) (n : ℕ) → Says (NodeObeys g n) (nodeTest g n)
 unfolding nodeTest

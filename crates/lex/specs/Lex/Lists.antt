@@ -12,13 +12,13 @@ use lib.Dec.{eqb, ltb}
 use lib.Bits.{bitOr, or-add-and, and-le-l, and-le-r, or-lt}
 use lib.Pow.{pow-lt, pow-mono}
 use borrow.Author.Tests.{lt-ltb, le-ltb, ltb-true, ltb-false}
+use Rattle.truth.specs.Truth.Bools.{by-split}
 use Rattle.lex.specs.declared.Class.the-variants.{Word}
 use Rattle.lex.specs.declared.Decimal.{Decimal}
 use Rattle.lex.specs.declared.Decimal.the-variants.{Value, Not}
 use Rattle.lex.specs.declared.Listed.{Listed}
 use Rattle.lex.specs.declared.Listed.the-variants.{Held, Beyond, NoList}
 use Rattle.lex.specs.Lex.{run, partOf, numberOf, onto, words, Members, members, none, ascending, membersOf, heldOf}
-use Rattle.lex.specs.Lex.Numbers.{by-test}
 
 -- a set as 64 bits with one member more
 abbrev pub withMember : Listed → ℕ → Listed
@@ -38,8 +38,8 @@ or-ge-r a b = omega (arith, or-add-and a b, and-le-l a b)
 -- the 64 bits of a set with one member more
 pub held-with : (x v : ℕ) → withMember (heldOf (members x)) v ≡ heldOf (members (bitOr x (2 ^ v)))
 held-with x v =
-    by-test (ltb x (2 ^ 64))
-    (λ a. by-test (ltb v 64)
+    by-split (ltb x (2 ^ 64))
+    (λ a. by-split (ltb v 64)
     (λ b. simp (a, b, lt-ltb (bitOr x (2 ^ v)) (2 ^ 64) (or-lt 64 x (2 ^ v) (ltb-true x (2 ^ 64) a) (pow-lt (ltb-true v 64 b)))))
     (λ b. simp (a, b, le-ltb (bitOr x (2 ^ v)) (2 ^ 64) (le-trans (pow-mono (ltb-false v 64 b)) (or-ge-r x (2 ^ v))))))
     (λ a. simp (a, le-ltb (bitOr x (2 ^ v)) (2 ^ 64) (le-trans (ltb-false x (2 ^ 64) a) (or-ge-l x (2 ^ v)))))
@@ -53,7 +53,7 @@ words-split : (l : List ℕ) → words l ≡ take (run Word l) l ∷ rest (drop 
 unfolding words run
 words-split [] = refl
 words-split (b ∷ l) =
-    by-test (eqb b 32)
+    by-split (eqb b 32)
     (λ t. simp t)
     (λ t. simp t (rw (words-split l)))
 

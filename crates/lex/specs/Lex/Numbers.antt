@@ -10,6 +10,7 @@ use lib.ListN.{length, getD, drop, drop-of-length-le}
 use lib.Seq.{drop-cons}
 use lib.Dec.{lit<, leb, ltb, eqb}
 use borrow.Author.Tests.{le-leb, lt-leb, lt-ltb, le-ltb, eq-eqb, ne-eqb, leb-true, ltb-false}
+use Rattle.truth.specs.Truth.Bools.{by-split}
 use Rattle.lex.specs.declared.Decimal.{Decimal}
 use Rattle.lex.specs.declared.Decimal.the-variants.{Value, Not}
 use Rattle.lex.specs.Lex.{digitsFrom, numberOf}
@@ -70,11 +71,6 @@ module _ (most : ℕ) (l : List ℕ) where
         unfolding numberOf
         number-digits z = simp (ne-eqb _ _ p, le-ltb _ _ o, le-ltb _ _ q, ne-eqb _ _ z)
 
--- a test holds or not
-pub by-test : {P : Type 0} (t : Bool) → (t ≡ true → P) → (t ≡ false → P) → P
-by-test true f g = f refl
-by-test false f g = g refl
-
 never : {P : Type 0} (v : ℕ) → Not ≡ Value v → P
 never v e = let z : _≡_ {A = ℕ} 0 1 = cc in absurd (omega arith)
 
@@ -84,8 +80,8 @@ digits-bound [] u v i h e =
     let p : u ≡ v = cc in
     rw (add-zero) (rw p at h)
 digits-bound (b ∷ l) u v i h e =
-    by-test (leb 48 b)
-    (λ lo. by-test (leb b 57)
+    by-split (leb 48 b)
+    (λ lo. by-split (leb b 57)
     (λ hi.
     let q : i + suc (length l) ≡ i + 1 + length l = omega arith in
     rw q (digits-bound l (u * 10 + (b - 48)) v (i + 1) (rw (ten-step i) (omega (arith, leb-true b 57 hi))) (simp (lo, hi) at e)))
@@ -96,12 +92,12 @@ digits-bound (b ∷ l) u v i h e =
 number-bound : (most : ℕ) (l : List ℕ) (v : ℕ) → numberOf most l ≡ Value v → (v < 10 ^ length l) × ((length l ≤ most) × (length l ≤ 18))
 unfolding numberOf
 number-bound most l v e =
-    by-test (eqb (length l) 0) (λ a. never v (simp a at e))
-    (λ a. by-test (ltb most (length l)) (λ b. never v (simp (a, b) at e))
-    (λ b. by-test (ltb 18 (length l)) (λ d. never v (simp (a, b, d) at e))
+    by-split (eqb (length l) 0) (λ a. never v (simp a at e))
+    (λ a. by-split (ltb most (length l)) (λ b. never v (simp (a, b) at e))
+    (λ b. by-split (ltb 18 (length l)) (λ d. never v (simp (a, b, d) at e))
     (λ d. (
-      by-test (eqb (getD l 0 0) 48)
-          (λ z. by-test (eqb (length l) 1)
+      by-split (eqb (getD l 0 0) 48)
+          (λ z. by-split (eqb (length l) 1)
           (λ o. let f : Value 0 ≡ Value v = simp (a, b, d, z, o) at e in let p : 0 ≡ v = cc in rw (← p) (pow-positive (length l)))
           (λ o. never v (simp (a, b, d, z, o) at e)))
           (λ z. rw zero-add at (digits-bound l 0 v 0 (lit< tt) (simp (a, b, d, z) at e))),

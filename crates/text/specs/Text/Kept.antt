@@ -1,0 +1,2 @@
+-- A node whose grants have a member at 64 or above is handed to the graph's judge with no kind. It breaks the node's rule as its grants do, so
+-- that the judge answers as it would of the text's own graph.

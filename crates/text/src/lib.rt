@@ -1,0 +1,1 @@
+// Reads a text into the slices of a graph.

@@ -30,16 +30,16 @@ onto x (rows xs next) = rows (x ∷ xs) next
 onto x (stop i) = stop i
 
 -- So many rows from a position on, the first with number i.
-unfoldable pub rowsAt : {X : Type 0} → (row : (at i : ℕ) → Got X) → (count at i : ℕ) → Rows X
-rowsAt row zero at i = rows [] at
-rowsAt row (suc count) at i = onGot (row at i) (stop i) (λ x p. onto x (rowsAt row count p (i + 1)))
+unfoldable pub rowsAt : {X : Type 0} → (row : (from i : ℕ) → Got X) → (count from i : ℕ) → Rows X
+rowsAt row zero from i = rows [] from
+rowsAt row (suc count) from i = onGot (row from i) (stop i) (λ x p. onto x (rowsAt row count p (i + 1)))
 
 abbrev pub onRows : {X Y : Type 0} → Rows X → (ℕ → Y) → (List X → ℕ → Y) → Y
 onRows (rows xs next) f g = g xs next
 onRows (stop i) f g = f i
 
-abbrev pub edgeRow : List ℕ → (at i : ℕ) → Got Edge
-edgeRow s at i = edgeAt s at
+abbrev pub edgeRow : List ℕ → (from i : ℕ) → Got Edge
+edgeRow s from i = edgeAt s from
 
 -- What a text says: K, its nodes and its edges; or which row is wrong, missing or extra.
 pub data Meaning : Type 0 where
@@ -47,9 +47,9 @@ pub data Meaning : Type 0 where
   wrong : (row : ℕ) → Meaning
 
 -- The text from a position on, whose first row has this number: the first row, N node rows, M edge rows, and nothing after them.
-unfoldable pub textAt : List ℕ → (at row : ℕ) → Meaning
-textAt s at row =
-    onGot (headerAt s at) (wrong row) (λ c p.
+unfoldable pub textAt : List ℕ → (from row : ℕ) → Meaning
+textAt s from row =
+    onGot (headerAt s from) (wrong row) (λ c p.
     onRows (rowsAt (nodeAt s) (c .n) p 0) (λ i. wrong (row + 1 + i)) (λ nodes p.
     onRows (rowsAt (edgeRow s) (c .m) p 0) (λ j. wrong (row + 1 + c .n + j)) (λ edges p.
     cond (ltb p (length s)) (wrong (row + 1 + c .n + c .m)) (says (c .k) nodes edges))))

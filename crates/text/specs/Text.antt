@@ -1,5 +1,7 @@
 -- What a text means, and what the reader answers and stores. Definitions alone.
 pub mod Kept
+pub mod Parts
+pub mod Slots
 use Prim.Native.Nat.{ℕ, zero, suc, _+_}
 use mathlib.Core.Path.{_≡_}
 use mathlib.Core.List.{List, [], _∷_, map}
@@ -16,6 +18,8 @@ use Rattle.graph.specs.declared.Judged.the-variants as judged
 use Rattle.records.specs.declared.Node.{Node}
 use Rattle.records.specs.declared.Edge.{Edge}
 use Rattle.records.specs.declared.Counts.{Counts}
+use Rattle.text.specs.declared.Reading.{Reading}
+use Rattle.text.specs.declared.Reading.the-variants as answer
 use Rattle.records.specs.Records.{Got, got, no, onGot, headerAt, nodeAt, edgeAt}
 
 -- ---- A text
@@ -82,3 +86,68 @@ ways = map (λ x. x .way)
 
 abbrev pub graphFrom : ℕ → List Node → List Edge → Graph
 graphFrom k ns es = graphOf k (length ns) (length es) (kinds ns) (checks ns) (privilegeds ns) (entries ns) (grants ns) (froms es) (tos es) (ways es)
+
+-- ---- The reader
+
+-- The slices that a caller lends.
+pub record Lent : Type 0 where
+  pub kinds : List ℕ
+  pub checks : List ℕ
+  pub privileged : List ℕ
+  pub entries : List ℕ
+  pub grants : List ℕ
+  pub froms : List ℕ
+  pub tos : List ℕ
+  pub ways : List ℕ
+
+abbrev pub lentOf : (kinds checks privileged entries grants froms tos ways : List ℕ) → Lent
+lentOf kinds checks privileged entries grants froms tos ways = record {
+  kinds = kinds;
+  checks = checks;
+  privileged = privileged;
+  entries = entries;
+  grants = grants;
+  froms = froms;
+  tos = tos;
+  ways = ways;
+}
+
+-- 1,024 places for what is a node's, 4,096 for what is an edge's.
+abbrev pub roomy : Lent → Bool
+roomy x =
+    (eqb (length (x .kinds)) 1024 && (eqb (length (x .checks)) 1024 && (eqb (length (x .privileged)) 1024 && (eqb (length (x .entries)) 1024 && eqb (length (x .grants)) 1024))))
+    && (eqb (length (x .froms)) 4096 && (eqb (length (x .tos)) 4096 && eqb (length (x .ways)) 4096))
+
+-- What is read: a graph, or the refusal.
+pub data Outcome : Type 0 where
+  read : (k : ℕ) → List Node → List Edge → Outcome
+  refused : Numbered → Outcome
+
+abbrev pub onJudged : Judged → (k : ℕ) → List Node → List Edge → Outcome
+onJudged judged.Accepted k ns es = read k ns es
+onJudged (judged.Refused r) k ns es = refused (numbered r)
+
+abbrev pub onMeaning : Meaning → Outcome
+onMeaning (wrong row) = refused (11 at row)
+onMeaning (says k ns es) = onJudged (judge (graphFrom k ns es)) k ns es
+
+-- 1 for the slices' lengths, 12 for a text above 65,536 bytes, 11 for its rows, then 2 to 4 as the graph is judged.
+unfoldable pub reading : Lent → List ℕ → Outcome
+reading x s = cond (roomy x) (cond (ltb 65536 (length s)) (refused (12 at 0)) (onMeaning (textAt s 0 1))) (refused (1 at 0))
+
+-- The first places hold the nodes and the edges, and every other place what it held.
+pub record Stores (before : Lent) (ns : List Node) (es : List Edge) (after : Lent) : Type 0 where
+  pub kinds-so : after .kinds ≡ sets (before .kinds) 0 (kinds ns)
+  pub checks-so : after .checks ≡ sets (before .checks) 0 (checks ns)
+  pub privileged-so : after .privileged ≡ sets (before .privileged) 0 (privilegeds ns)
+  pub entries-so : after .entries ≡ sets (before .entries) 0 (entries ns)
+  pub grants-so : after .grants ≡ sets (before .grants) 0 (grants ns)
+  pub froms-so : after .froms ≡ sets (before .froms) 0 (froms es)
+  pub tos-so : after .tos ≡ sets (before .tos) 0 (tos es)
+  pub ways-so : after .ways ≡ sets (before .ways) 0 (ways es)
+
+-- The answer, and what the slices hold after it.
+pub data Reads (before : Lent) (s : List ℕ) : Reading → Lent → Type 0 where
+  stored : {k : ℕ} {ns : List Node} {es : List Edge} {after : Lent} → reading before s ≡ read k ns es → Stores before ns es after
+      → Reads before s (answer.Graph k (length ns) (length es)) after
+  refuses : {r : Refusal} → reading before s ≡ refused (numbered r) → Reads before s (answer.Refused r) before

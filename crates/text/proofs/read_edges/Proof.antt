@@ -1,0 +1,114 @@
+use Prim.Native.Nat.{_-_}
+use mathlib.Core.Path.{_≡_, sym, ap, _∙_}
+use native.Mathlib.Omega.{arith}
+use Rattle.text.specs.Text.{edgeRow}
+use Rattle.text.specs.Text.Parts.{endFrom}
+use Rattle.text.specs.Text.Slots.{Slot, end-start, end-out, end-stop, end-step, slot-start, slot-out, slot-stop, slot-step, edge-got, edge-no}
+use borrow.Author.Needs.{needs}
+use Rattle.text.proofs.read_edges.Statement.{statement}
+use Rattle.text.proofs.read_edges.Tie as tie
+
+abbrev Inv-loop : tie.InvT-loop
+Inv-loop froms₀ tos₀ ways₀ s from m p₀ i₀ froms tos ways p i = (endFrom (edgeRow s) (m - i) p i ≡ endFrom (edgeRow s) m from 0) × Slot (edgeRow s) (λ x. x .from) m from froms₀ froms p i × Slot (edgeRow s) (λ x. x .to) m from tos₀ tos p i × Slot (edgeRow s) (λ x. x .way) m from ways₀ ways p i
+
+abbrev μ-loop : tie.MeasureT-loop
+μ-loop froms₀ tos₀ ways₀ s from m p₀ i₀ froms tos ways p i = m - i
+
+loop-holds : tie.Need-loop-holds Inv-loop μ-loop
+loop-holds c = (end-start _ _ _, slot-start _ _ _ _ _, slot-start _ _ _ _ _, slot-start _ _ _ _ _)
+
+read-edge-requires : tie.Need-read-edge-requires Inv-loop μ-loop
+read-edge-requires c κs = search needs
+
+enum-known-edge : tie.Need-enum-known-edge Inv-loop μ-loop
+enum-known-edge c = search needs
+
+enum-told : tie.Need-enum-told Inv-loop μ-loop
+enum-told c = search needs
+
+same-length : tie.Need-same-length Inv-loop μ-loop
+same-length c = c .before .before .before .before .loop .inv .1 .long
+
+same-length-2 : tie.Need-same-length-2 Inv-loop μ-loop
+same-length-2 c = c .before .before .before .before .loop .inv .2 .long
+
+same-length-3 : tie.Need-same-length-3 Inv-loop μ-loop
+same-length-3 c = c .before .before .before .before .loop .inv .3 .long
+
+returns : tie.Need-returns Inv-loop μ-loop
+returns c =
+    let v = c .before .before .before .before .loop .inv in
+    let h = c .before .before .before .loop-test .taken in
+    let w = edge-no _ (sym (c .before .before .read-edge .ensures) ∙ c .enum-told .given .1) in
+    record { answer = end-stop _ _ _ h w (v .0); froms-so = slot-stop _ _ _ (v .1) h w; tos-so = slot-stop _ _ _ (v .2) h w; ways-so = slot-stop _ _ _ (v .3) h w }
+
+mul-froms : tie.Need-mul-froms Inv-loop μ-loop
+mul-froms c = omega arith
+
+slice-write-froms : tie.Need-slice-write-froms Inv-loop μ-loop
+slice-write-froms c = omega arith
+
+mul-tos : tie.Need-mul-tos Inv-loop μ-loop
+mul-tos c = omega arith
+
+slice-write-tos : tie.Need-slice-write-tos Inv-loop μ-loop
+slice-write-tos c = omega arith
+
+slice-write-ways : tie.Need-slice-write-ways Inv-loop μ-loop
+slice-write-ways c = omega arith
+
+add-i : tie.Need-add-i Inv-loop μ-loop
+add-i c = search needs
+
+loop-less : tie.Need-loop-less Inv-loop μ-loop
+loop-less c = search needs
+
+loop-again : tie.Need-loop-again Inv-loop μ-loop
+loop-again c =
+    let r = c .before .before .before in
+    let h = r .before .loop-test .taken in
+    let v = r .before .before .loop .inv in
+    let w = edge-got _ (sym (r .read-edge .ensures) ∙ c .before .edge .given .1) in
+    (end-step _ _ _ h w (v .0), slot-step _ _ _ (v .1) h w, slot-step _ _ _ (v .2) h w, slot-step _ _ _ (v .3) h w)
+
+same-length-4 : tie.Need-same-length-4 Inv-loop μ-loop
+same-length-4 c = c .before .loop .inv .1 .long
+
+same-length-5 : tie.Need-same-length-5 Inv-loop μ-loop
+same-length-5 c = c .before .loop .inv .2 .long
+
+same-length-6 : tie.Need-same-length-6 Inv-loop μ-loop
+same-length-6 c = c .before .loop .inv .3 .long
+
+returns-2 : tie.Need-returns-2 Inv-loop μ-loop
+returns-2 c =
+    let v = c .before .loop .inv in
+    let h = c .loop-test .left in
+    record { answer = end-out _ _ _ h (v .0); froms-so = slot-out _ _ _ (v .1) h; tos-so = slot-out _ _ _ (v .2) h; ways-so = slot-out _ _ _ (v .3) h }
+
+pub read-edges-spec : {M : Type 1} → statement M
+read-edges-spec =
+    tie.close
+    (tie.spec
+    Inv-loop
+    μ-loop
+    loop-holds
+    read-edge-requires
+    enum-known-edge
+    enum-told
+    same-length
+    same-length-2
+    same-length-3
+    returns
+    mul-froms
+    slice-write-froms
+    mul-tos
+    slice-write-tos
+    slice-write-ways
+    add-i
+    loop-less
+    loop-again
+    same-length-4
+    same-length-5
+    same-length-6
+    returns-2)

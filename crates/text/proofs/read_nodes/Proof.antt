@@ -1,0 +1,140 @@
+use Rattle.records.specs.Records.{nodeAt}
+use Prim.Native.Nat.{_-_}
+use mathlib.Core.Path.{_≡_, sym, ap, _∙_}
+use native.Mathlib.Omega.{arith}
+use Rattle.text.specs.Text.Parts.{endFrom, keptRow}
+use Rattle.text.specs.Text.Slots.{Slot, end-start, end-out, end-stop, end-step, slot-start, slot-out, slot-stop, slot-step, node-got, node-no}
+use borrow.Author.Needs.{needs}
+use Rattle.text.proofs.read_nodes.Statement.{statement}
+use Rattle.text.proofs.read_nodes.Tie as tie
+
+abbrev Inv-loop : tie.InvT-loop
+Inv-loop kinds₀ checks₀ privileged₀ entries₀ grants₀ s from n p₀ i₀ kinds checks privileged entries grants p i = (endFrom (keptRow s) (n - i) p i ≡ endFrom (keptRow s) n from 0) × Slot (keptRow s) (λ x. x .kind) n from kinds₀ kinds p i × Slot (keptRow s) (λ x. x .check) n from checks₀ checks p i × Slot (keptRow s) (λ x. x .privileged) n from privileged₀ privileged p i × Slot (keptRow s) (λ x. x .entry) n from entries₀ entries p i × Slot (keptRow s) (λ x. x .grants) n from grants₀ grants p i
+
+abbrev μ-loop : tie.MeasureT-loop
+μ-loop kinds₀ checks₀ privileged₀ entries₀ grants₀ s from n p₀ i₀ kinds checks privileged entries grants p i = n - i
+
+loop-holds : tie.Need-loop-holds Inv-loop μ-loop
+loop-holds c = (end-start _ _ _, slot-start _ _ _ _ _, slot-start _ _ _ _ _, slot-start _ _ _ _ _, slot-start _ _ _ _ _, slot-start _ _ _ _ _)
+
+read-node-requires : tie.Need-read-node-requires Inv-loop μ-loop
+read-node-requires c κs = search needs
+
+enum-known-node : tie.Need-enum-known-node Inv-loop μ-loop
+enum-known-node c = search needs
+
+enum-told : tie.Need-enum-told Inv-loop μ-loop
+enum-told c = search needs
+
+same-length : tie.Need-same-length Inv-loop μ-loop
+same-length c = c .before .before .before .before .loop .inv .1 .long
+
+same-length-2 : tie.Need-same-length-2 Inv-loop μ-loop
+same-length-2 c = c .before .before .before .before .loop .inv .2 .long
+
+same-length-3 : tie.Need-same-length-3 Inv-loop μ-loop
+same-length-3 c = c .before .before .before .before .loop .inv .3 .long
+
+same-length-4 : tie.Need-same-length-4 Inv-loop μ-loop
+same-length-4 c = c .before .before .before .before .loop .inv .4 .long
+
+same-length-5 : tie.Need-same-length-5 Inv-loop μ-loop
+same-length-5 c = c .before .before .before .before .loop .inv .5 .long
+
+returns : tie.Need-returns Inv-loop μ-loop
+returns c =
+    let v = c .before .before .before .before .loop .inv in
+    let h = c .before .before .before .loop-test .taken in
+    let l = c .before .before .before .before .loop in
+    let w = node-no (nodeAt (c .before .before .before .before .before .before .before .before .before .before .before .args .s .now) (l .p) (l .i)) (sym (c .before .before .read-node .ensures) ∙ c .enum-told .given .1) in
+    record { answer = end-stop _ _ _ h w (v .0); kinds-so = slot-stop _ _ _ (v .1) h w; checks-so = slot-stop _ _ _ (v .2) h w; privileged-so = slot-stop _ _ _ (v .3) h w; entries-so = slot-stop _ _ _ (v .4) h w; grants-so = slot-stop _ _ _ (v .5) h w }
+
+slice-write-kinds : tie.Need-slice-write-kinds Inv-loop μ-loop
+slice-write-kinds c = omega arith
+
+mul-checks : tie.Need-mul-checks Inv-loop μ-loop
+mul-checks c = omega arith
+
+slice-write-checks : tie.Need-slice-write-checks Inv-loop μ-loop
+slice-write-checks c = omega arith
+
+slice-write-privileged : tie.Need-slice-write-privileged Inv-loop μ-loop
+slice-write-privileged c = omega arith
+
+slice-write-entries : tie.Need-slice-write-entries Inv-loop μ-loop
+slice-write-entries c = omega arith
+
+mul-grants : tie.Need-mul-grants Inv-loop μ-loop
+mul-grants c = omega arith
+
+slice-write-grants : tie.Need-slice-write-grants Inv-loop μ-loop
+slice-write-grants c = omega arith
+
+add-i : tie.Need-add-i Inv-loop μ-loop
+add-i c = search needs
+
+loop-less : tie.Need-loop-less Inv-loop μ-loop
+loop-less c = search needs
+
+loop-again : tie.Need-loop-again Inv-loop μ-loop
+loop-again c =
+    let r = c .before .before .before in
+    let h = r .before .loop-test .taken in
+    let v = r .before .before .loop .inv in
+    let l = r .before .before .loop in
+    let w = node-got (nodeAt (c .before .before .before .before .before .before .before .before .before .before .before .before .args .s .now) (l .p) (l .i)) (sym (r .read-node .ensures) ∙ c .before .node .given .1) in
+    (end-step _ _ _ h w (v .0), slot-step _ _ _ (v .1) h w, slot-step _ _ _ (v .2) h w, slot-step _ _ _ (v .3) h w, slot-step _ _ _ (v .4) h w, slot-step _ _ _ (v .5) h w)
+
+same-length-6 : tie.Need-same-length-6 Inv-loop μ-loop
+same-length-6 c = c .before .loop .inv .1 .long
+
+same-length-7 : tie.Need-same-length-7 Inv-loop μ-loop
+same-length-7 c = c .before .loop .inv .2 .long
+
+same-length-8 : tie.Need-same-length-8 Inv-loop μ-loop
+same-length-8 c = c .before .loop .inv .3 .long
+
+same-length-9 : tie.Need-same-length-9 Inv-loop μ-loop
+same-length-9 c = c .before .loop .inv .4 .long
+
+same-length-10 : tie.Need-same-length-10 Inv-loop μ-loop
+same-length-10 c = c .before .loop .inv .5 .long
+
+returns-2 : tie.Need-returns-2 Inv-loop μ-loop
+returns-2 c =
+    let v = c .before .loop .inv in
+    let h = c .loop-test .left in
+    record { answer = end-out _ _ _ h (v .0); kinds-so = slot-out _ _ _ (v .1) h; checks-so = slot-out _ _ _ (v .2) h; privileged-so = slot-out _ _ _ (v .3) h; entries-so = slot-out _ _ _ (v .4) h; grants-so = slot-out _ _ _ (v .5) h }
+
+pub read-nodes-spec : {M : Type 1} → statement M
+read-nodes-spec =
+    tie.close
+    (tie.spec
+    Inv-loop
+    μ-loop
+    loop-holds
+    read-node-requires
+    enum-known-node
+    enum-told
+    same-length
+    same-length-2
+    same-length-3
+    same-length-4
+    same-length-5
+    returns
+    slice-write-kinds
+    mul-checks
+    slice-write-checks
+    slice-write-privileged
+    slice-write-entries
+    mul-grants
+    slice-write-grants
+    add-i
+    loop-less
+    loop-again
+    same-length-6
+    same-length-7
+    same-length-8
+    same-length-9
+    same-length-10
+    returns-2)

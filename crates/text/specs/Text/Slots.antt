@@ -1,0 +1,86 @@
+-- What reading the rows i to n from position p on answers and stores, by the row at p: once for every kind of row and every slice.
+use Prim.Native.Nat.{ℕ, zero, suc, _+_, _-_, _≤_, _<_}
+use mathlib.Core.Path.{_≡_, refl, sym, ap, _∙_}
+use mathlib.Core.List.{List, [], _∷_, map}
+use native.Mathlib.Numerals.{add-one}
+use native.Mathlib.Nat.{sub-eq-zero-of-le, sub-zero}
+use native.Mathlib.Omega.{arith}
+use lib.ListN.{length, set, length-set}
+use lib.Seq.{sets}
+use Rattle.records.specs.declared.Node.{Node}
+use Rattle.records.specs.declared.NodeRow.the-variants as node
+use Rattle.records.specs.declared.Edge.{Edge}
+use Rattle.records.specs.declared.EdgeRow.the-variants as edge
+use Rattle.records.specs.Records.{Got, got, no, onGot, kept}
+use Rattle.records.specs.Records.Rows.{nodeRowOf, edgeRowOf}
+use Rattle.text.specs.declared.Ran.{Ran}
+use Rattle.text.specs.declared.Ran.the-variants.{Past, Stop}
+use Rattle.text.specs.Text.Parts.{rowsFrom, endFrom}
+
+one-less : (n i : ℕ) → i < n → n - i ≡ suc (n - (i + 1))
+one-less n i h = omega arith
+
+-- A slice k, written below i, is on its way: with what the rows to come say it is what it has to be.
+pub record Slot {X : Type 0} (row : (from i : ℕ) → Got X) (f : X → ℕ) (n from : ℕ) (k₀ k : List ℕ) (p i : ℕ) : Type 0 where
+  pub goes : sets k i (map f (rowsFrom row (n - i) p i)) ≡ sets k₀ 0 (map f (rowsFrom row n from 0))
+  pub long : length k ≡ length k₀
+
+module _ {X : Type 0} (row : (from i : ℕ) → Got X) (n from : ℕ) where
+  pub end-start : endFrom row (n - 0) from 0 ≡ endFrom row n from 0
+  end-start = rw sub-zero
+
+  pub slot-start : (f : X → ℕ) (k₀ : List ℕ) → Slot row f n from k₀ k₀ from 0
+  slot-start f k₀ = record { goes = rw sub-zero; long = refl }
+
+  module _ {p i : ℕ} where
+    pub end-out : n ≤ i → endFrom row (n - i) p i ≡ endFrom row n from 0 → Past p ≡ endFrom row n from 0
+    unfolding endFrom
+    end-out h e = rw (sub-eq-zero-of-le h) at e
+
+    pub end-stop : i < n → row p i ≡ no → endFrom row (n - i) p i ≡ endFrom row n from 0 → Stop i ≡ endFrom row n from 0
+    unfolding endFrom
+    end-stop h w e = let e′ = rw (one-less n i h) at e in simp w at e′
+
+    pub end-step : {x : X} {q : ℕ} → i < n → row p i ≡ got x q → endFrom row (n - i) p i ≡ endFrom row n from 0 → endFrom row (n - (i + 1)) q (i + 1) ≡ endFrom row n from 0
+    unfolding endFrom
+    end-step h w e = let e′ = rw (one-less n i h) at e in simp w at e′
+
+    module _ {f : X → ℕ} {k₀ k : List ℕ} (o : Slot row f n from k₀ k p i) where
+      pub slot-out : n ≤ i → k ≡ sets k₀ 0 (map f (rowsFrom row n from 0))
+      unfolding rowsFrom
+      slot-out h = rw (sub-eq-zero-of-le h) at (o .goes)
+
+      pub slot-stop : i < n → row p i ≡ no → k ≡ sets k₀ 0 (map f (rowsFrom row n from 0))
+      unfolding rowsFrom
+      slot-stop h w = let e′ = rw (one-less n i h) at (o .goes) in simp w at e′
+
+      pub slot-step : {x : X} {q : ℕ} → i < n → row p i ≡ got x q → Slot row f n from k₀ (set k i (f x)) q (i + 1)
+      unfolding rowsFrom
+      slot-step {x} {q} h w =
+          let a : sets k i (map f (rowsFrom row (n - i) p i)) ≡ sets (set k i (f x)) (i + 1) (map f (rowsFrom row (n - (i + 1)) q (i + 1))) =
+          rw (one-less n i h) (simp w (rw (add-one i))) in
+          record { goes = sym a ∙ o .goes; long = simp length-set (o .long) }
+
+-- ---- from the answer of a row's reader to the row
+
+pub node-got : (g : Got Node) {x : Node} {q : ℕ} → nodeRowOf g ≡ node.At x q → onGot g no (λ y p. got (kept y) p) ≡ got x q
+node-got no e = let z : _≡_ {A = ℕ} 0 1 = cc in absurd (omega arith)
+node-got (got y p) {x} {q} e =
+    let a : kept y ≡ x = cc in
+    let b : p ≡ q = cc in
+    rw (← a, b) refl
+
+pub node-no : (g : Got Node) → nodeRowOf g ≡ node.Wrong → onGot g no (λ y p. got (kept y) p) ≡ no
+node-no no e = refl
+node-no (got y p) e = let z : _≡_ {A = ℕ} 0 1 = cc in absurd (omega arith)
+
+pub edge-got : (g : Got Edge) {x : Edge} {q : ℕ} → edgeRowOf g ≡ edge.At x q → g ≡ got x q
+edge-got no e = let z : _≡_ {A = ℕ} 0 1 = cc in absurd (omega arith)
+edge-got (got y p) {x} {q} e =
+    let a : y ≡ x = cc in
+    let b : p ≡ q = cc in
+    rw (a, b) refl
+
+pub edge-no : (g : Got Edge) → edgeRowOf g ≡ edge.Wrong → g ≡ no
+edge-no no e = refl
+edge-no (got y p) e = let z : _≡_ {A = ℕ} 0 1 = cc in absurd (omega arith)

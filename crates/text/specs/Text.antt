@@ -2,6 +2,7 @@
 pub mod Kept
 pub mod Parts
 pub mod Slots
+pub mod Ends
 use Prim.Native.Nat.{ℕ, zero, suc, _+_}
 use mathlib.Core.Path.{_≡_}
 use mathlib.Core.List.{List, [], _∷_, map}

@@ -1,17 +1,18 @@
 // Reads a text into the slices of a graph.
 use graph::Judged;
 use graph::Refusal;
+use records::Counts;
 use records::EdgeRow;
 use records::Header;
 use records::NodeRow;
 ghost use mathlib.Core.Path.{_≡_};
-ghost use Prim.Native.Nat.{_≤_};
+ghost use Prim.Native.Nat.{ℕ, _<_, _≤_};
 ghost use lib.ListN.{length, take};
 ghost use lib.Seq.{sets};
 ghost use Rattle.truth.specs.Truth.{Says};
 ghost use Rattle.graph.specs.Graph.{graphOf};
 ghost use Rattle.text.specs.Text.{lentOf, Reads};
-ghost use Rattle.text.specs.Text.Parts.{NodesRead, EdgesRead};
+ghost use Rattle.text.specs.Text.Parts.{NodesRead, EdgesRead, tailFrom, TailRead, RestRead, Places, Room, Parses};
 
 // The graph's counts, or why there is none.
 pub enum Reading {
@@ -81,4 +82,113 @@ fn read_edges(
         i += 1;
     }
     Ran::Past(p)
+}
+
+// What a text says of its counts, or its first wrong, missing or extra row.
+enum Parsed {
+    Counted(Counts),
+    Wrong(usize),
+}
+
+// The answer where the edge rows, the first of which has this number, ended so.
+fn end_text(ran: Ran, len: usize, row: usize, counts: Counts) -> Parsed
+    requires { ⌜ (row ≤ 65536) × (counts .m ≤ 4096) × ((j : ℕ) → ran ≡ Ran.Stop j → j < counts .m) ⌝ }
+    ensures { λ r. ⌜ r ≡ tailFrom ran len row counts ⌝ }
+{
+    match ran {
+        Ran::Stop(j) => Parsed::Wrong(row + j),
+        Ran::Past(q) => {
+            if q < len {
+                return Parsed::Wrong(row + counts.m);
+            }
+            Parsed::Counted(counts)
+        }
+    }
+}
+
+// The edge rows, the first of which has this number, and the text's end.
+fn parse_edges(
+    froms: &mut [u16],
+    tos: &mut [u16],
+    ways: &mut [u8],
+    s: &[u8],
+    from: usize,
+    row: usize,
+    counts: Counts,
+) -> Parsed
+    requires { ⌜ ((row ≤ 65536) × (counts .m ≤ 4096)) × (counts .m ≤ length (now froms)) × (counts .m ≤ length (now tos)) × (counts .m ≤ length (now ways)) ⌝ }
+    ensures { λ r. ⌜ TailRead (now (s .entry)) from row counts r (now (froms .entry)) (now (froms .exit)) (now (tos .entry)) (now (tos .exit)) (now (ways .entry)) (now (ways .exit)) ⌝ }
+{
+    let ran = read_edges(froms, tos, ways, s, from, counts.m);
+    end_text(ran, s.len(), row, counts)
+}
+
+// The node rows, the first of which has this number, and the rest.
+fn parse_rows(
+    kinds: &mut [u8],
+    checks: &mut [u16],
+    privileged: &mut [u8],
+    entries: &mut [u8],
+    grants: &mut [u64],
+    froms: &mut [u16],
+    tos: &mut [u16],
+    ways: &mut [u8],
+    s: &[u8],
+    from: usize,
+    row: usize,
+    counts: Counts,
+) -> Parsed
+    requires { ⌜ (row ≤ 1024) × Places counts (lentOf (now kinds) (now checks) (now privileged) (now entries) (now grants) (now froms) (now tos) (now ways)) ⌝ }
+    ensures { λ r. ⌜ RestRead (now (s .entry)) from row counts r (lentOf (now (kinds .entry)) (now (checks .entry)) (now (privileged .entry)) (now (entries .entry)) (now (grants .entry)) (now (froms .entry)) (now (tos .entry)) (now (ways .entry))) (lentOf (now (kinds .exit)) (now (checks .exit)) (now (privileged .exit)) (now (entries .exit)) (now (grants .exit)) (now (froms .exit)) (now (tos .exit)) (now (ways .exit))) ⌝ }
+{
+    let ran = read_nodes(
+        kinds,
+        checks,
+        privileged,
+        entries,
+        grants,
+        s,
+        from,
+        counts.n,
+    );
+    match ran {
+        Ran::Stop(i) => Parsed::Wrong(row + i),
+        Ran::Past(p) => parse_edges(froms, tos, ways, s, p, row + counts.n, counts),
+    }
+}
+
+// The text from a position on, whose first row has this number.
+fn parse(
+    kinds: &mut [u8],
+    checks: &mut [u16],
+    privileged: &mut [u8],
+    entries: &mut [u8],
+    grants: &mut [u64],
+    froms: &mut [u16],
+    tos: &mut [u16],
+    ways: &mut [u8],
+    s: &[u8],
+    from: usize,
+    row: usize,
+) -> Parsed
+    requires { ⌜ (row < 1024) × Room (lentOf (now kinds) (now checks) (now privileged) (now entries) (now grants) (now froms) (now tos) (now ways)) ⌝ }
+    ensures { λ r. ⌜ Parses (lentOf (now (kinds .entry)) (now (checks .entry)) (now (privileged .entry)) (now (entries .entry)) (now (grants .entry)) (now (froms .entry)) (now (tos .entry)) (now (ways .entry))) (now (s .entry)) from row r (lentOf (now (kinds .exit)) (now (checks .exit)) (now (privileged .exit)) (now (entries .exit)) (now (grants .exit)) (now (froms .exit)) (now (tos .exit)) (now (ways .exit))) ⌝ }
+{
+    match records::read_header(s, from) {
+        Header::Wrong => Parsed::Wrong(row),
+        Header::At { counts, next } => parse_rows(
+            kinds,
+            checks,
+            privileged,
+            entries,
+            grants,
+            froms,
+            tos,
+            ways,
+            s,
+            next,
+            row + 1,
+            counts,
+        ),
+    }
 }

@@ -12,7 +12,10 @@ use Rattle.lex.specs.declared.Listed.{Listed}
 use Rattle.lex.specs.declared.Listed.the-variants as listed
 use Rattle.lex.specs.declared.Piece.{Piece}
 use Rattle.lex.specs.declared.Piece.the-variants.{Part, NoPart}
+use Rattle.truth.specs.Truth.Tests.{says-true}
+use Rattle.graph.specs.Graph.{Ranges}
 use Rattle.graph.specs.Judge.{rangeTest}
+use Rattle.graph.specs.Judge.Laws.{range?}
 use Rattle.records.specs.declared.Form.{Form}
 use Rattle.records.specs.declared.Form.the-variants.{Tag, Number, Own, Kind, Check, Marks, Way, Empty}
 use Rattle.records.specs.declared.Found.{Found}
@@ -333,3 +336,25 @@ module _ (s : List ℕ) (at : ℕ) where
     pub header-all : rangeTest (x .a) (x .b) (x .c) ≡ true → headerAt s at ≡ got (record { k = x .a; n = x .b; m = x .c }) p
     unfolding headerAt
     header-all f = simp (e, f)
+
+-- the counts of a first row are in range
+pub header-ranges : (s : List ℕ) (at : ℕ) {c : Counts} {p : ℕ} → headerAt s at ≡ got c p → Ranges (c .k) (c .n) (c .m)
+header-ranges s at {c} {p} e = by-row (threeAt 71 Number s at) refl
+  where
+    by-row : (g : Got Three) → threeAt 71 Number s at ≡ g → Ranges (c .k) (c .n) (c .m)
+    by-row no f = none-got (sym (header-none s at f) ∙ e)
+    by-row (got x q) f =
+        by-split (rangeTest (x .a) (x .b) (x .c))
+        (λ t. let i = got-first (sym (header-all s at f t) ∙ e) in subst (λ (y : Counts). Ranges (y .k) (y .n) (y .m)) i (says-true (range? _ _ _) t))
+        (λ t. none-got (sym (header-out s at f t) ∙ e))
+
+pub header-got : (g : Got Counts) {x : Counts} {p : ℕ} → headerOf g ≡ header.At x p → g ≡ got x p
+header-got no e = let z : _≡_ {A = ℕ} 0 1 = cc in absurd (omega arith)
+header-got (got y q) {x} {p} e =
+    let a : y ≡ x = cc in
+    let b : q ≡ p = cc in
+    rw (a, b) refl
+
+pub header-no : (g : Got Counts) → headerOf g ≡ header.Wrong → g ≡ no
+header-no no e = refl
+header-no (got y q) e = let z : _≡_ {A = ℕ} 0 1 = cc in absurd (omega arith)

@@ -2,14 +2,20 @@
 use Prim.Native.Nat.{ℕ, zero, suc, _+_, _≤_}
 use mathlib.Core.Path.{_≡_}
 use mathlib.Core.List.{List, [], _∷_, map}
-use lib.ListN.{length, take}
+use mathlib.Core.Bool.{cond}
+use lib.ListN.{length}
 use lib.Seq.{sets}
+use lib.Dec.{ltb}
 use Rattle.records.specs.declared.Node.{Node}
 use Rattle.records.specs.declared.Edge.{Edge}
+use Rattle.records.specs.declared.Counts.{Counts}
 use Rattle.records.specs.Records.{Got, got, no, onGot, nodeAt, kept}
 use Rattle.text.specs.declared.Ran.{Ran}
 use Rattle.text.specs.declared.Ran.the-variants.{Past, Stop}
-use Rattle.text.specs.Text.{edgeRow, kinds, checks, privilegeds, entries, grants, froms, tos, ways}
+use Rattle.text.specs.declared.Parsed.{Parsed}
+use Rattle.text.specs.declared.Parsed.the-variants.{Counted, Wrong}
+use Rattle.text.specs.Text.Kept.{keptAll}
+use Rattle.text.specs.Text.{says, wrong, textAt, Lent, Stores, edgeRow, kinds, checks, privilegeds, entries, grants, froms, tos, ways}
 
 -- ---- rows, by what they say and by where they end
 
@@ -40,3 +46,64 @@ pub record EdgesRead (s : List ℕ) (from m : ℕ) (r : Ran) (f f′ t t′ w w�
   pub froms-so : f′ ≡ sets f 0 (froms (rowsFrom (edgeRow s) m from 0))
   pub tos-so : t′ ≡ sets t 0 (tos (rowsFrom (edgeRow s) m from 0))
   pub ways-so : w′ ≡ sets w 0 (ways (rowsFrom (edgeRow s) m from 0))
+
+-- ---- a whole text, by its parts
+
+abbrev pub onRan : {Y : Type 0} → Ran → (ℕ → Y) → (ℕ → Y) → Y
+onRan (Stop i) f g = f i
+onRan (Past q) f g = g q
+
+-- where the edge rows ended, the first of which has this number, says how the text ends
+unfoldable pub tailFrom : Ran → (len row : ℕ) → Counts → Parsed
+tailFrom ran len row c = onRan ran (λ j. Wrong (row + j)) (λ q. cond (ltb q len) (Wrong (row + c .m)) (Counted c))
+
+unfoldable pub tailOf : List ℕ → (p row : ℕ) → Counts → Parsed
+tailOf s p row c = tailFrom (endFrom (edgeRow s) (c .m) p 0) (length s) row c
+
+pub record TailRead (s : List ℕ) (p row : ℕ) (c : Counts) (r : Parsed) (f f′ t t′ w w′ : List ℕ) : Type 0 where
+  pub answer : r ≡ tailOf s p row c
+  pub froms-so : f′ ≡ sets f 0 (froms (rowsFrom (edgeRow s) (c .m) p 0))
+  pub tos-so : t′ ≡ sets t 0 (tos (rowsFrom (edgeRow s) (c .m) p 0))
+  pub ways-so : w′ ≡ sets w 0 (ways (rowsFrom (edgeRow s) (c .m) p 0))
+
+-- the node rows, the first of which has this number, and the rest
+unfoldable pub restOf : List ℕ → (p row : ℕ) → Counts → Parsed
+restOf s p row c = onRan (endFrom (keptRow s) (c .n) p 0) (λ i. Wrong (row + i)) (λ q. tailOf s q (row + c .n) c)
+
+-- the edges of the rows that are right
+unfoldable pub edgesAfter : List ℕ → (p : ℕ) → Counts → List Edge
+edgesAfter s p c = onRan (endFrom (keptRow s) (c .n) p 0) (λ i. []) (λ q. rowsFrom (edgeRow s) (c .m) q 0)
+
+pub record RestRead (s : List ℕ) (p row : ℕ) (c : Counts) (r : Parsed) (before after : Lent) : Type 0 where
+  pub answer : r ≡ restOf s p row c
+  pub so : Stores before (rowsFrom (keptRow s) (c .n) p 0) (edgesAfter s p c) after
+
+-- places for the nodes and edges that are counted
+pub record Places (c : Counts) (x : Lent) : Type 0 where
+  pub n-high : c .n ≤ 1024
+  pub m-high : c .m ≤ 4096
+  pub kinds-high : c .n ≤ length (x .kinds)
+  pub checks-high : c .n ≤ length (x .checks)
+  pub privileged-high : c .n ≤ length (x .privileged)
+  pub entries-high : c .n ≤ length (x .entries)
+  pub grants-high : c .n ≤ length (x .grants)
+  pub froms-high : c .m ≤ length (x .froms)
+  pub tos-high : c .m ≤ length (x .tos)
+  pub ways-high : c .m ≤ length (x .ways)
+
+-- slices as long as the reader's have to be
+pub record Room (x : Lent) : Type 0 where
+  pub kinds-long : length (x .kinds) ≡ 1024
+  pub checks-long : length (x .checks) ≡ 1024
+  pub privileged-long : length (x .privileged) ≡ 1024
+  pub entries-long : length (x .entries) ≡ 1024
+  pub grants-long : length (x .grants) ≡ 1024
+  pub froms-long : length (x .froms) ≡ 4096
+  pub tos-long : length (x .tos) ≡ 4096
+  pub ways-long : length (x .ways) ≡ 4096
+
+-- What the text means, with its nodes as they are kept.
+pub data Parses (before : Lent) (s : List ℕ) (from row : ℕ) : Parsed → Lent → Type 0 where
+  counted : {c : Counts} {ns : List Node} {es : List Edge} {after : Lent} → textAt s from row ≡ says (c .k) ns es → c .n ≡ length ns → c .m ≡ length es
+      → Stores before (keptAll ns) es after → Parses before s from row (Counted c) after
+  faulty : {r : ℕ} {after : Lent} → textAt s from row ≡ wrong r → Parses before s from row (Wrong r) after

@@ -1,0 +1,117 @@
+use mathlib.Core.Path.{sym, _∙_, ap}
+use native.Mathlib.Omega.{arith}
+use Rattle.text.specs.Text.Parts.{keptRow}
+use Rattle.text.specs.Text.Ends.{end-bound, rest-stop, edges-stop, rest-past, edges-past}
+use borrow.Author.Needs.{needs}
+use Rattle.text.proofs.parse_rows.Statement.{statement}
+use Rattle.text.proofs.parse_rows.Tie as tie
+
+read-nodes-requires : tie.Need-read-nodes-requires
+read-nodes-requires c κs = search needs
+
+enum-known-ran : tie.Need-enum-known-ran
+enum-known-ran c = search needs
+
+add-t27 : tie.Need-add-t27
+add-t27 c =
+    let a = c .before .before .before .before .before .before .before .before .before .before .before .before .before .before .before .before .before .before .before .before .before .before .before .before .before .before .before .before .args in
+    omega (arith, c .before .before .before .before .before .before .before .before .before .before .before .before .before .before .before .before .before .before .before .before .before .before .before .before .before .before .before .before .pre .0, c .before .before .before .before .before .before .before .before .before .before .before .before .before .before .before .before .before .before .before .before .before .before .before .before .before .before .before .before .pre .1 .n-high, end-bound (keptRow (a .s .now)) (a .counts .n) (a .from) 0 _ (sym (c .before .before .before .before .before .before .before .before .before .before .before .before .before .read-nodes .ensures .answer) ∙ c .before .ran .given .1))
+
+enum-known-ran-2 : tie.Need-enum-known-ran-2
+enum-known-ran-2 c = search needs
+
+add-parse-edges : tie.Need-add-parse-edges
+add-parse-edges c = omega (arith, c .before .before .before .before .before .before .before .before .before .before .before .before .before .before .before .before .before .before .before .before .before .before .before .before .before .before .before .before .before .before .before .before .pre .0, c .before .before .before .before .before .before .before .before .before .before .before .before .before .before .before .before .before .before .before .before .before .before .before .before .before .before .before .before .before .before .before .before .pre .1 .n-high)
+
+parse-edges-requires : tie.Need-parse-edges-requires
+parse-edges-requires c κs =
+    let q = c .before .before .before .before .before .before .before .before .before .before .before .before .before .before .before .before .before .before .before .before .before .before .before .before .before .before .before .before .before .before .before .before .pre .1 in
+    ((omega (arith, c .before .before .before .before .before .before .before .before .before .before .before .before .before .before .before .before .before .before .before .before .before .before .before .before .before .before .before .before .before .before .before .before .pre .0, q .n-high), q .m-high), q .froms-high, q .tos-high, q .ways-high)
+
+same-length : tie.Need-same-length
+same-length c = search needs
+
+same-length-2 : tie.Need-same-length-2
+same-length-2 c = search needs
+
+same-length-3 : tie.Need-same-length-3
+same-length-3 c = search needs
+
+same-length-4 : tie.Need-same-length-4
+same-length-4 c = search needs
+
+same-length-5 : tie.Need-same-length-5
+same-length-5 c = search needs
+
+returns : tie.Need-returns
+returns c =
+    let a = c .before .before .before .before .before .before .before .before .before .before .before .before .before .before .before .before .before .before .before .before .before .before .before .before .before .before .before .before .args in
+    let r = c .before .before .before .before .before .before .before .before .before .before .before .before .before .read-nodes .ensures in
+    let e = sym (r .answer) ∙ c .before .ran .given .1 in
+    let n = edges-stop (a .s .now) (a .from) (a .counts) e in
+    record {
+      answer = sym (rest-stop (a .s .now) (a .from) (a .counts) _ e);
+      so = record { kinds-so = r .kinds-so; checks-so = r .checks-so; privileged-so = r .privileged-so; entries-so = r .entries-so; grants-so = r .grants-so; froms-so = rw n; tos-so = rw n; ways-so = rw n };
+    }
+
+same-length-6 : tie.Need-same-length-6
+same-length-6 c = search needs
+
+same-length-7 : tie.Need-same-length-7
+same-length-7 c = search needs
+
+same-length-8 : tie.Need-same-length-8
+same-length-8 c = search needs
+
+same-length-9 : tie.Need-same-length-9
+same-length-9 c = search needs
+
+same-length-10 : tie.Need-same-length-10
+same-length-10 c = search needs
+
+same-length-11 : tie.Need-same-length-11
+same-length-11 c = search needs
+
+same-length-12 : tie.Need-same-length-12
+same-length-12 c = search needs
+
+same-length-13 : tie.Need-same-length-13
+same-length-13 c = search needs
+
+returns-2 : tie.Need-returns-2
+returns-2 c =
+    let a = c .before .before .before .before .before .before .before .before .before .before .before .before .before .before .before .before .before .before .before .before .before .before .before .before .before .before .before .before .before .before .before .before .before .before .before .before .before .before .before .args in
+    let r = c .before .before .before .before .before .before .before .before .before .before .before .before .before .before .before .before .before .before .before .before .before .before .before .before .read-nodes .ensures in
+    let t = c .before .before .before .before .before .before .parse-edges .ensures in
+    let e = sym (r .answer) ∙ c .before .before .before .before .before .before .before .before .before .before .before .before .ran2 .given .1 in
+    let n = edges-past (a .s .now) (a .from) (a .counts) e in
+    record {
+      answer = t .answer ∙ sym (rest-past (a .s .now) (a .from) (a .counts) _ e);
+      so = record { kinds-so = r .kinds-so; checks-so = r .checks-so; privileged-so = r .privileged-so; entries-so = r .entries-so; grants-so = r .grants-so; froms-so = rw n (t .froms-so); tos-so = rw n (t .tos-so); ways-so = rw n (t .ways-so) };
+    }
+
+pub parse-rows-spec : {M : Type 1} → statement M
+parse-rows-spec =
+    tie.close
+    (tie.spec
+    read-nodes-requires
+    enum-known-ran
+    add-t27
+    enum-known-ran-2
+    add-parse-edges
+    parse-edges-requires
+    same-length
+    same-length-2
+    same-length-3
+    same-length-4
+    same-length-5
+    returns
+    same-length-6
+    same-length-7
+    same-length-8
+    same-length-9
+    same-length-10
+    same-length-11
+    same-length-12
+    same-length-13
+    returns-2)

@@ -3,6 +3,8 @@ pub mod Kept
 pub mod Parts
 pub mod Slots
 pub mod Ends
+pub mod Copies
+pub mod Laws
 use Prim.Native.Nat.{ℕ, zero, suc, _+_}
 use mathlib.Core.Path.{_≡_}
 use mathlib.Core.List.{List, [], _∷_, map}
@@ -147,8 +149,8 @@ pub record Stores (before : Lent) (ns : List Node) (es : List Edge) (after : Len
   pub tos-so : after .tos ≡ sets (before .tos) 0 (tos es)
   pub ways-so : after .ways ≡ sets (before .ways) 0 (ways es)
 
--- The answer, and what the slices hold after it.
-pub data Reads (before : Lent) (s : List ℕ) : Reading → Lent → Type 0 where
-  stored : {k : ℕ} {ns : List Node} {es : List Edge} {after : Lent} → reading before s ≡ read k ns es → Stores before ns es after
-      → Reads before s (answer.Graph k (length ns) (length es)) after
-  refuses : {r : Refusal} → reading before s ≡ refused (numbered r) → Reads before s (answer.Refused r) before
+-- The answer that says what is read, and what the slices hold after it: a refusal stores nothing.
+pub data Tells (o : Outcome) (before : Lent) : Reading → Lent → Type 0 where
+  stored : {k : ℕ} {ns : List Node} {es : List Edge} {after : Lent} → o ≡ read k ns es → Stores before ns es after
+      → Tells o before (answer.Graph k (length ns) (length es)) after
+  refuses : {r : Refusal} → o ≡ refused (numbered r) → Tells o before (answer.Refused r) before

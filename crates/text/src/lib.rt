@@ -10,9 +10,9 @@ ghost use Prim.Native.Nat.{ℕ, _<_, _≤_};
 ghost use lib.ListN.{length, take};
 ghost use lib.Seq.{sets};
 ghost use Rattle.truth.specs.Truth.{Says};
-ghost use Rattle.graph.specs.Graph.{graphOf};
-ghost use Rattle.text.specs.Text.{lentOf, Reads};
-ghost use Rattle.text.specs.Text.Parts.{NodesRead, EdgesRead, tailFrom, TailRead, RestRead, Places, Room, Parses};
+ghost use Rattle.graph.specs.Graph.{graphOf, NodesLong, EdgesLong};
+ghost use Rattle.text.specs.Text.{lentOf, onMeaning, textAt, reading, Tells};
+ghost use Rattle.text.specs.Text.Parts.{NodesRead, EdgesRead, tailFrom, TailRead, RestRead, Places, Room, Parses, NodesCopied, EdgesCopied, Settles};
 
 // The graph's counts, or why there is none.
 pub enum Reading {
@@ -191,4 +191,81 @@ fn parse(
             counts,
         ),
     }
+}
+
+fn copy_u8(to: &mut [u8], from: &[u8], n: usize)
+    requires { ⌜ (n ≤ length (now from)) × (n ≤ length (now to)) ⌝ }
+    ensures { λ _. ⌜ now (to .exit) ≡ sets (now (to .entry)) 0 (take n (now (from .entry))) ⌝ }
+{
+    let mut i: usize = 0;
+    while i < n {
+        to[i] = from[i];
+        i += 1;
+    }
+}
+
+fn copy_u16(to: &mut [u16], from: &[u16], n: usize)
+    requires { ⌜ (n ≤ length (now from)) × (n ≤ length (now to)) ⌝ }
+    ensures { λ _. ⌜ now (to .exit) ≡ sets (now (to .entry)) 0 (take n (now (from .entry))) ⌝ }
+{
+    let mut i: usize = 0;
+    while i < n {
+        to[i] = from[i];
+        i += 1;
+    }
+}
+
+fn copy_u64(to: &mut [u64], from: &[u64], n: usize)
+    requires { ⌜ (n ≤ length (now from)) × (n ≤ length (now to)) ⌝ }
+    ensures { λ _. ⌜ now (to .exit) ≡ sets (now (to .entry)) 0 (take n (now (from .entry))) ⌝ }
+{
+    let mut i: usize = 0;
+    while i < n {
+        to[i] = from[i];
+        i += 1;
+    }
+}
+
+// Hands over what was parsed of n nodes.
+fn store_nodes(
+    kinds: &mut [u8],
+    checks: &mut [u16],
+    privileged: &mut [u8],
+    entries: &mut [u8],
+    grants: &mut [u64],
+    ks: &[u8],
+    cs: &[u16],
+    ps: &[u8],
+    es: &[u8],
+    gs: &[u64],
+    n: usize,
+)
+    requires { ⌜ (n ≤ 1024) × NodesLong 1024 (length (now kinds)) (length (now checks)) (length (now privileged)) (length (now entries)) (length (now grants)) ⌝ }
+    requires { ⌜ NodesLong 1024 (length (now ks)) (length (now cs)) (length (now ps)) (length (now es)) (length (now gs)) ⌝ }
+    ensures { λ _. ⌜ NodesCopied n (now (ks .entry)) (now (cs .entry)) (now (ps .entry)) (now (es .entry)) (now (gs .entry)) (now (kinds .entry)) (now (checks .entry)) (now (privileged .entry)) (now (entries .entry)) (now (grants .entry)) (now (kinds .exit)) (now (checks .exit)) (now (privileged .exit)) (now (entries .exit)) (now (grants .exit)) ⌝ }
+{
+    copy_u8(kinds, ks, n);
+    copy_u16(checks, cs, n);
+    copy_u8(privileged, ps, n);
+    copy_u8(entries, es, n);
+    copy_u64(grants, gs, n);
+}
+
+// Hands over what was parsed of m edges.
+fn store_edges(
+    froms: &mut [u16],
+    tos: &mut [u16],
+    ways: &mut [u8],
+    fs: &[u16],
+    ts: &[u16],
+    ws: &[u8],
+    m: usize,
+)
+    requires { ⌜ (m ≤ 4096) × EdgesLong 4096 (length (now froms)) (length (now tos)) (length (now ways)) ⌝ }
+    requires { ⌜ EdgesLong 4096 (length (now fs)) (length (now ts)) (length (now ws)) ⌝ }
+    ensures { λ _. ⌜ EdgesCopied m (now (fs .entry)) (now (ts .entry)) (now (ws .entry)) (now (froms .entry)) (now (tos .entry)) (now (ways .entry)) (now (froms .exit)) (now (tos .exit)) (now (ways .exit)) ⌝ }
+{
+    copy_u16(froms, fs, m);
+    copy_u16(tos, ts, m);
+    copy_u8(ways, ws, m);
 }

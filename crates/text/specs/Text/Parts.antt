@@ -3,15 +3,21 @@ use Prim.Native.Nat.{ℕ, zero, suc, _+_, _≤_}
 use mathlib.Core.Path.{_≡_}
 use mathlib.Core.List.{List, [], _∷_, map}
 use mathlib.Core.Bool.{cond}
-use lib.ListN.{length}
+use lib.ListN.{length, take}
 use lib.Seq.{sets}
 use lib.Dec.{ltb}
+use Rattle.graph.specs.Graph.{Graph, graphOf}
+use Rattle.graph.specs.Judge.{Judges}
+use Rattle.graph.specs.declared.Refusal.{Refusal}
+use Rattle.graph.specs.declared.Judged.the-variants as judged
 use Rattle.records.specs.declared.Node.{Node}
 use Rattle.records.specs.declared.Edge.{Edge}
 use Rattle.records.specs.declared.Counts.{Counts}
 use Rattle.records.specs.Records.{Got, got, no, onGot, nodeAt, kept}
 use Rattle.text.specs.declared.Ran.{Ran}
 use Rattle.text.specs.declared.Ran.the-variants.{Past, Stop}
+use Rattle.text.specs.declared.Reading.{Reading}
+use Rattle.text.specs.declared.Reading.the-variants as answer
 use Rattle.text.specs.declared.Parsed.{Parsed}
 use Rattle.text.specs.declared.Parsed.the-variants.{Counted, Wrong}
 use Rattle.text.specs.Text.Kept.{keptAll}
@@ -107,3 +113,31 @@ pub data Parses (before : Lent) (s : List ℕ) (from row : ℕ) : Parsed → Len
   counted : {c : Counts} {ns : List Node} {es : List Edge} {after : Lent} → textAt s from row ≡ says (c .k) ns es → c .n ≡ length ns → c .m ≡ length es
       → Stores before (keptAll ns) es after → Parses before s from row (Counted c) after
   faulty : {r : ℕ} {after : Lent} → textAt s from row ≡ wrong r → Parses before s from row (Wrong r) after
+
+-- ---- what was parsed, judged and handed over
+
+abbrev pub heldGraph : (k n m : ℕ) → Lent → Graph
+heldGraph k n m x =
+    graphOf k n m (take n (x .kinds)) (take n (x .checks)) (take n (x .privileged)) (take n (x .entries)) (take n (x .grants)) (take m (x .froms)) (take m (x .tos)) (take m (x .ways))
+
+pub record NodesCopied (n : ℕ) (k c p e g k₀ c₀ p₀ e₀ g₀ k′ c′ p′ e′ g′ : List ℕ) : Type 0 where
+  pub kinds-so : k′ ≡ sets k₀ 0 (take n k)
+  pub checks-so : c′ ≡ sets c₀ 0 (take n c)
+  pub privileged-so : p′ ≡ sets p₀ 0 (take n p)
+  pub entries-so : e′ ≡ sets e₀ 0 (take n e)
+  pub grants-so : g′ ≡ sets g₀ 0 (take n g)
+
+pub record EdgesCopied (m : ℕ) (f t w f₀ t₀ w₀ f′ t′ w′ : List ℕ) : Type 0 where
+  pub froms-so : f′ ≡ sets f₀ 0 (take m f)
+  pub tos-so : t′ ≡ sets t₀ 0 (take m t)
+  pub ways-so : w′ ≡ sets w₀ 0 (take m w)
+
+pub record Copied (c : Counts) (held before after : Lent) : Type 0 where
+  pub nodes : NodesCopied (c .n) (held .kinds) (held .checks) (held .privileged) (held .entries) (held .grants) (before .kinds) (before .checks) (before .privileged) (before .entries) (before .grants)
+      (after .kinds) (after .checks) (after .privileged) (after .entries) (after .grants)
+  pub edges : EdgesCopied (c .m) (held .froms) (held .tos) (held .ways) (before .froms) (before .tos) (before .ways) (after .froms) (after .tos) (after .ways)
+
+pub data Settles (c : Counts) (held before : Lent) : Reading → Lent → Type 0 where
+  settled : {after : Lent} → Judges (heldGraph (c .k) (c .n) (c .m) held) judged.Accepted → Copied c held before after
+      → Settles c held before (answer.Graph (c .k) (c .n) (c .m)) after
+  unsettled : {r : Refusal} → Judges (heldGraph (c .k) (c .n) (c .m) held) (judged.Refused r) → Settles c held before (answer.Refused r) before

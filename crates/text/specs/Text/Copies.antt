@@ -1,0 +1,28 @@
+-- Copies of the first places of a slice, and what is read back of one that was written.
+use Prim.Native.Nat.{ℕ, suc, _+_, _-_, _≤_, _<_}
+use mathlib.Core.Path.{_≡_, refl, sym, ap, _∙_}
+use mathlib.Core.List.{List}
+use native.Mathlib.Numerals.{add-one}
+use native.Mathlib.Nat.{sub-eq-zero-of-le, sub-zero}
+use native.Mathlib.Omega.{arith}
+use lib.ListN.{length, getD, take, drop, set}
+use lib.Seq.{sets, sets-eq, drop-cons, take-append-seam}
+
+module _ (from : List ℕ) (n : ℕ) where
+  pub copy-start : (to : List ℕ) → sets to 0 (take (n - 0) (drop 0 from)) ≡ sets to 0 (take n from)
+  copy-start to = rw sub-zero
+
+  module _ (to : List ℕ) (i : ℕ) where
+    pub copy-out : n ≤ i → sets to i (take (n - i) (drop i from)) ≡ to
+    copy-out h = rw (sub-eq-zero-of-le h)
+
+    pub copy-step : i < n → i < length from → sets to i (take (n - i) (drop i from)) ≡ sets (set to i (getD from i 0)) (i + 1) (take (n - (i + 1)) (drop (i + 1) from))
+    copy-step h k =
+        let q : n - i ≡ suc (n - (i + 1)) = omega arith in
+        rw (q, drop-cons from i 0 k) (rw (add-one i))
+
+-- the first places of a slice that was written from its start
+pub take-sets : (l vs : List ℕ) → length vs ≤ length l → take (length vs) (sets l 0 vs) ≡ vs
+take-sets l vs h =
+    let k : 0 + length vs ≤ length l = omega arith in
+    rw (sets-eq vs l 0 k) (take-append-seam vs (drop (0 + length vs) l))

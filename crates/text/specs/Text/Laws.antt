@@ -1,0 +1,1 @@
+-- One answer and one content for every input; and how the answer follows from what was parsed and judged.

@@ -269,3 +269,122 @@ fn store_edges(
     copy_u16(tos, ts, m);
     copy_u8(ways, ws, m);
 }
+
+// Judges the graph that was parsed, and hands it over where it is accepted.
+fn settle(
+    kinds: &mut [u8],
+    checks: &mut [u16],
+    privileged: &mut [u8],
+    entries: &mut [u8],
+    grants: &mut [u64],
+    froms: &mut [u16],
+    tos: &mut [u16],
+    ways: &mut [u8],
+    ks: &[u8],
+    cs: &[u16],
+    ps: &[u8],
+    es: &[u8],
+    gs: &[u64],
+    fs: &[u16],
+    ts: &[u16],
+    ws: &[u8],
+    counts: Counts,
+) -> Reading
+    requires { ⌜ ((counts .n ≤ 1024) × (counts .m ≤ 4096)) × Room (lentOf (now kinds) (now checks) (now privileged) (now entries) (now grants) (now froms) (now tos) (now ways)) × Room (lentOf (now ks) (now cs) (now ps) (now es) (now gs) (now fs) (now ts) (now ws)) ⌝ }
+    ensures { λ r. ⌜ Settles counts (lentOf (now (ks .entry)) (now (cs .entry)) (now (ps .entry)) (now (es .entry)) (now (gs .entry)) (now (fs .entry)) (now (ts .entry)) (now (ws .entry))) (lentOf (now (kinds .entry)) (now (checks .entry)) (now (privileged .entry)) (now (entries .entry)) (now (grants .entry)) (now (froms .entry)) (now (tos .entry)) (now (ways .entry))) r (lentOf (now (kinds .exit)) (now (checks .exit)) (now (privileged .exit)) (now (entries .exit)) (now (grants .exit)) (now (froms .exit)) (now (tos .exit)) (now (ways .exit))) ⌝ }
+{
+    let k = counts.k;
+    let n = counts.n;
+    let m = counts.m;
+    let judged = graph::check(
+        k,
+        n,
+        m,
+        &ks[0..n],
+        &cs[0..n],
+        &ps[0..n],
+        &es[0..n],
+        &gs[0..n],
+        &fs[0..m],
+        &ts[0..m],
+        &ws[0..m],
+    );
+    if let Judged::Refused(why) = judged {
+        return Reading::Refused(why);
+    }
+    store_nodes(
+        kinds,
+        checks,
+        privileged,
+        entries,
+        grants,
+        ks,
+        cs,
+        ps,
+        es,
+        gs,
+        n,
+    );
+    store_edges(froms, tos, ways, fs, ts, ws, m);
+    Reading::Graph { k, n, m }
+}
+
+// Reads a text into slices that have room.
+fn read_sized(
+    kinds: &mut [u8],
+    checks: &mut [u16],
+    privileged: &mut [u8],
+    entries: &mut [u8],
+    grants: &mut [u64],
+    froms: &mut [u16],
+    tos: &mut [u16],
+    ways: &mut [u8],
+    s: &[u8],
+) -> Reading
+    requires { ⌜ Room (lentOf (now kinds) (now checks) (now privileged) (now entries) (now grants) (now froms) (now tos) (now ways)) ⌝ }
+    ensures { λ r. ⌜ Tells (onMeaning (textAt (now (s .entry)) 0 1)) (lentOf (now (kinds .entry)) (now (checks .entry)) (now (privileged .entry)) (now (entries .entry)) (now (grants .entry)) (now (froms .entry)) (now (tos .entry)) (now (ways .entry))) r (lentOf (now (kinds .exit)) (now (checks .exit)) (now (privileged .exit)) (now (entries .exit)) (now (grants .exit)) (now (froms .exit)) (now (tos .exit)) (now (ways .exit))) ⌝ }
+{
+    let mut ks = [0u8; 1024];
+    let mut cs = [0u16; 1024];
+    let mut ps = [0u8; 1024];
+    let mut es = [0u8; 1024];
+    let mut gs = [0u64; 1024];
+    let mut fs = [0u16; 4096];
+    let mut ts = [0u16; 4096];
+    let mut ws = [0u8; 4096];
+    let parsed = parse(
+        &mut ks,
+        &mut cs,
+        &mut ps,
+        &mut es,
+        &mut gs,
+        &mut fs,
+        &mut ts,
+        &mut ws,
+        s,
+        0,
+        1,
+    );
+    match parsed {
+        Parsed::Wrong(row) => Reading::Refused(Refusal::Row(row)),
+        Parsed::Counted(counts) => settle(
+            kinds,
+            checks,
+            privileged,
+            entries,
+            grants,
+            froms,
+            tos,
+            ways,
+            &ks,
+            &cs,
+            &ps,
+            &es,
+            &gs,
+            &fs,
+            &ts,
+            &ws,
+            counts,
+        ),
+    }
+}

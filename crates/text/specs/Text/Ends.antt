@@ -12,6 +12,7 @@ use Rattle.records.specs.declared.Node.{Node}
 use Rattle.records.specs.declared.Edge.{Edge}
 use Rattle.records.specs.declared.Counts.{Counts}
 use Rattle.records.specs.Records.{Got, got, no, headerAt, nodeAt, kept}
+use Rattle.records.specs.Records.Rows.{header-ranges}
 use Rattle.text.specs.declared.Ran.{Ran}
 use Rattle.text.specs.declared.Ran.the-variants.{Past, Stop}
 use Rattle.text.specs.declared.Parsed.{Parsed}
@@ -183,7 +184,7 @@ module _ (s : List ℕ) (from row : ℕ) where
             by-split (ltb t (length s))
             (λ h. parses-wrong (answers ∙ sym (tail-by s q c _ (sym v)) ∙ tail-more _ _ c refl (ltb-true t (length s) h)) (text-extra (nodes-are .0) (g .0) h))
             (λ h. subst (λ (y : Parsed). Parses before s from row y after) (sym (answers ∙ sym (tail-by s q c _ (sym v)) ∙ tail-done _ _ c refl (ltb-false t (length s) h)))
-            (counted (text-says (nodes-are .0) (g .0) h) (sym (nodes-are .1)) (sym (g .1)) so))
+            (counted (header-ranges s from e) (text-says (nodes-are .0) (g .0) h) (sym (nodes-are .1)) (sym (g .1)) so))
 
       by-nodes : (x : Ran) → endFrom (keptRow s) (c .n) p 0 ≡ x → Parses before s from row r after
       by-nodes (Stop i) u =

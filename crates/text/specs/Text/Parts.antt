@@ -6,7 +6,7 @@ use mathlib.Core.Bool.{cond}
 use lib.ListN.{length, take}
 use lib.Seq.{sets}
 use lib.Dec.{ltb}
-use Rattle.graph.specs.Graph.{Graph, graphOf}
+use Rattle.graph.specs.Graph.{Graph, graphOf, Ranges}
 use Rattle.graph.specs.Judge.{Judges}
 use Rattle.graph.specs.declared.Refusal.{Refusal}
 use Rattle.graph.specs.declared.Judged.the-variants as judged
@@ -110,7 +110,7 @@ pub record Room (x : Lent) : Type 0 where
 
 -- What the text means, with its nodes as they are kept.
 pub data Parses (before : Lent) (s : List ℕ) (from row : ℕ) : Parsed → Lent → Type 0 where
-  counted : {c : Counts} {ns : List Node} {es : List Edge} {after : Lent} → textAt s from row ≡ says (c .k) ns es → c .n ≡ length ns → c .m ≡ length es
+  counted : {c : Counts} {ns : List Node} {es : List Edge} {after : Lent} → Ranges (c .k) (c .n) (c .m) → textAt s from row ≡ says (c .k) ns es → c .n ≡ length ns → c .m ≡ length es
       → Stores before (keptAll ns) es after → Parses before s from row (Counted c) after
   faulty : {r : ℕ} {after : Lent} → textAt s from row ≡ wrong r → Parses before s from row (Wrong r) after
 

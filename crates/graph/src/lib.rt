@@ -222,7 +222,7 @@ pub fn in_range(k: usize, n: usize, m: usize) -> bool
 }
 
 // By the lengths of a node's slices.
-fn nodes_long(
+pub fn nodes_long(
     n: usize,
     kinds: usize,
     checks: usize,
@@ -248,7 +248,7 @@ fn nodes_long(
 }
 
 // By the lengths of an edge's slices.
-fn edges_long(m: usize, froms: usize, tos: usize, ways: usize) -> bool
+pub fn edges_long(m: usize, froms: usize, tos: usize, ways: usize) -> bool
     ensures { λ r. ⌜ Says (EdgesLong m froms tos ways) r ⌝ }
 {
     if froms != m {

@@ -388,3 +388,46 @@ fn read_sized(
         ),
     }
 }
+
+// Reads a text into slices of 1,024 and 4,096 places: stores the graph in their first places, or refuses and stores nothing.
+pub fn read(
+    kinds: &mut [u8],
+    checks: &mut [u16],
+    privileged: &mut [u8],
+    entries: &mut [u8],
+    grants: &mut [u64],
+    froms: &mut [u16],
+    tos: &mut [u16],
+    ways: &mut [u8],
+    s: &[u8],
+) -> Reading
+    ensures { λ r. ⌜ Tells (reading (lentOf (now (kinds .entry)) (now (checks .entry)) (now (privileged .entry)) (now (entries .entry)) (now (grants .entry)) (now (froms .entry)) (now (tos .entry)) (now (ways .entry))) (now (s .entry))) (lentOf (now (kinds .entry)) (now (checks .entry)) (now (privileged .entry)) (now (entries .entry)) (now (grants .entry)) (now (froms .entry)) (now (tos .entry)) (now (ways .entry))) r (lentOf (now (kinds .exit)) (now (checks .exit)) (now (privileged .exit)) (now (entries .exit)) (now (grants .exit)) (now (froms .exit)) (now (tos .exit)) (now (ways .exit))) ⌝ }
+{
+    if !graph::nodes_long(
+        1024,
+        kinds.len(),
+        checks.len(),
+        privileged.len(),
+        entries.len(),
+        grants.len(),
+    ) {
+        return Reading::Refused(Refusal::Shape);
+    }
+    if !graph::edges_long(4096, froms.len(), tos.len(), ways.len()) {
+        return Reading::Refused(Refusal::Shape);
+    }
+    if 65536 < s.len() {
+        return Reading::Refused(Refusal::TooLong);
+    }
+    read_sized(
+        kinds,
+        checks,
+        privileged,
+        entries,
+        grants,
+        froms,
+        tos,
+        ways,
+        s,
+    )
+}

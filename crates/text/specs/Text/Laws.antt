@@ -1,5 +1,5 @@
 -- How the answer follows from what was parsed and judged; and one answer and one content for every input.
-use Prim.Native.Nat.{ℕ, _-_, _≤_}
+use Prim.Native.Nat.{ℕ, _-_, _≤_, _<_}
 use mathlib.Core.Path.{_≡_, refl, sym, ap, ap₂, _∙_, subst}
 use mathlib.Core.Bool.{Bool, true, false}
 use mathlib.Core.List.{List, map}
@@ -8,7 +8,8 @@ use native.Mathlib.Nat.{sub-zero}
 use lib.ListN.{length, take, drop, length-map}
 use lib.Seq.{sets, length-sets}
 use Rattle.truth.specs.Truth.{Says}
-use Rattle.truth.specs.Truth.Tests.{says-same, eq?, and?}
+use borrow.Author.Tests.{lt-ltb, le-ltb}
+use Rattle.truth.specs.Truth.Tests.{says-same, true-says, false-says, eq?, and?}
 use Rattle.graph.specs.Graph.{Graph, graphOf, NodesLong, EdgesLong, Ranges}
 use Rattle.graph.specs.Refusals.{numbered, numbered-one, _at_}
 use Rattle.graph.specs.Judge.{Judges, judge}
@@ -140,3 +141,71 @@ module _ {c : Counts} {zeros held : Lent} {s : List ℕ} {from row : ℕ} (d : S
 
 pub wrong-tells : {before : Lent} (s : List ℕ) (from row : ℕ) {x : ℕ} → textAt s from row ≡ wrong x → Tells (onMeaning (textAt s from row)) before (answer.Refused (why.Row x)) before
 wrong-tells s from row e = refuses (ap onMeaning e)
+
+-- ---- the slices' lengths and the text's
+
+pub room : {x : Lent} → NodesLong 1024 (length (x .kinds)) (length (x .checks)) (length (x .privileged)) (length (x .entries)) (length (x .grants))
+    → EdgesLong 4096 (length (x .froms)) (length (x .tos)) (length (x .ways)) → Room x
+room n e = record {
+  kinds-long = n .kinds-long;
+  checks-long = n .checks-long;
+  privileged-long = n .privileged-long;
+  entries-long = n .entries-long;
+  grants-long = n .grants-long;
+  froms-long = e .froms-long;
+  tos-long = e .tos-long;
+  ways-long = e .ways-long;
+}
+
+room? : (x : Lent) → Says (Room x) (roomy x)
+room? x =
+    says-same
+    (and? (and? (eq? _ 1024) (and? (eq? _ 1024) (and? (eq? _ 1024) (and? (eq? _ 1024) (eq? _ 1024))))) (and? (eq? _ 4096) (and? (eq? _ 4096) (eq? _ 4096))))
+    (λ h. room
+    (record { kinds-long = h .0 .0; checks-long = h .0 .1 .0; privileged-long = h .0 .1 .1 .0; entries-long = h .0 .1 .1 .1 .0; grants-long = h .0 .1 .1 .1 .1 })
+    (record { froms-long = h .1 .0; tos-long = h .1 .1 .0; ways-long = h .1 .1 .1 }))
+    (λ r. ((r .kinds-long, (r .checks-long, (r .privileged-long, (r .entries-long, r .grants-long)))), (r .froms-long, (r .tos-long, r .ways-long))))
+
+module _ (x : Lent) (s : List ℕ) where
+  pub reading-short : (Room x → ⊥) → reading x s ≡ refused (1 at 0)
+  unfolding reading
+  reading-short d = rw (false-says (room? x) d) refl
+
+  module _ (r : Room x) where
+    pub reading-long : 65536 < length s → reading x s ≡ refused (12 at 0)
+    unfolding reading
+    reading-long h = rw (true-says (room? x) r, lt-ltb 65536 (length s) h) refl
+
+    pub reading-sized : length s ≤ 65536 → reading x s ≡ onMeaning (textAt s 0 1)
+    unfolding reading
+    reading-sized h = rw (true-says (room? x) r, le-ltb 65536 (length s) h) refl
+
+pub tells-by : {o p : Outcome} {before after : Lent} {r : Reading} → o ≡ p → Tells p before r after → Tells o before r after
+tells-by {before = before} {after = after} {r = r} e t = subst (λ (q : Outcome). Tells q before r after) (sym e) t
+
+-- ---- one answer and one content
+
+lent-one : {x y : Lent} → x .kinds ≡ y .kinds → x .checks ≡ y .checks → x .privileged ≡ y .privileged → x .entries ≡ y .entries → x .grants ≡ y .grants
+    → x .froms ≡ y .froms → x .tos ≡ y .tos → x .ways ≡ y .ways → x ≡ y
+lent-one a b c d e f g h = λ i. record { kinds = a i; checks = b i; privileged = c i; entries = d i; grants = e i; froms = f i; tos = g i; ways = h i }
+
+stores-one : {before x y : Lent} {ns : List Node} {es : List Edge} → Stores before ns es x → Stores before ns es y → x ≡ y
+stores-one a b =
+    lent-one (a .kinds-so ∙ sym (b .kinds-so)) (a .checks-so ∙ sym (b .checks-so)) (a .privileged-so ∙ sym (b .privileged-so)) (a .entries-so ∙ sym (b .entries-so)) (a .grants-so ∙ sym (b .grants-so))
+    (a .froms-so ∙ sym (b .froms-so)) (a .tos-so ∙ sym (b .tos-so)) (a .ways-so ∙ sym (b .ways-so))
+
+pub reads-one : {o : Outcome} {before x y : Lent} {a b : Reading} → Tells o before a x → Tells o before b y → (a ≡ b) × (x ≡ y)
+reads-one {before = before} {x = x} {y = y} (stored {k = k} {ns = ns} {es = es} e h) (stored {k = l} {ns = ms} {es = fs} f i) = go (sym e ∙ f)
+  where
+    go : read k ns es ≡ read l ms fs → (answer.Graph k (length ns) (length es) ≡ answer.Graph l (length ms) (length fs)) × (x ≡ y)
+    go q =
+        let u : k ≡ l = cc in
+        let v : ns ≡ ms = cc in
+        let w : es ≡ fs = cc in
+        (rw (u, v, w) refl, stores-one (subst (λ l. Stores before l fs x) v (subst (λ l. Stores before ns l x) w h)) i)
+reads-one (stored e h) (refuses f) = let q = sym e ∙ f in let z : _≡_ {A = ℕ} 0 1 = cc in absurd (omega arith)
+reads-one (refuses e) (stored f h) = let q = sym e ∙ f in let z : _≡_ {A = ℕ} 0 1 = cc in absurd (omega arith)
+reads-one (refuses {r = r} e) (refuses {r = t} f) = (ap answer.Refused (numbered-one r t (same-refused (sym e ∙ f))), refl)
+  where
+    same-refused : refused (numbered r) ≡ refused (numbered t) → numbered r ≡ numbered t
+    same-refused q = cc

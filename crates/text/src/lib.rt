@@ -11,8 +11,9 @@ ghost use lib.ListN.{length, take};
 ghost use lib.Seq.{sets};
 ghost use Rattle.truth.specs.Truth.{Says};
 ghost use Rattle.graph.specs.Graph.{graphOf, NodesLong, EdgesLong};
+ghost use Rattle.graph.specs.Judge.{Judges};
 ghost use Rattle.text.specs.Text.{lentOf, onMeaning, textAt, reading, Tells};
-ghost use Rattle.text.specs.Text.Parts.{NodesRead, EdgesRead, tailFrom, TailRead, RestRead, Places, Room, Parses, NodesCopied, EdgesCopied, Settles};
+ghost use Rattle.text.specs.Text.Parts.{NodesRead, EdgesRead, tailFrom, TailRead, RestRead, Places, Room, Parses, NodesCopied, EdgesCopied, heldGraph, Settles, SizesSo};
 
 // The graph's counts, or why there is none.
 pub enum Reading {
@@ -270,7 +271,39 @@ fn store_edges(
     copy_u8(ways, ws, m);
 }
 
-// Judges the graph that was parsed, and hands it over where it is accepted.
+// Judges the graph that was parsed.
+fn judge(
+    ks: &[u8],
+    cs: &[u16],
+    ps: &[u8],
+    es: &[u8],
+    gs: &[u64],
+    fs: &[u16],
+    ts: &[u16],
+    ws: &[u8],
+    counts: Counts,
+) -> Judged
+    requires { ⌜ ((counts .n ≤ 1024) × (counts .m ≤ 4096)) × Room (lentOf (now ks) (now cs) (now ps) (now es) (now gs) (now fs) (now ts) (now ws)) ⌝ }
+    ensures { λ r. ⌜ Judges (heldGraph (counts .k) (counts .n) (counts .m) (lentOf (now (ks .entry)) (now (cs .entry)) (now (ps .entry)) (now (es .entry)) (now (gs .entry)) (now (fs .entry)) (now (ts .entry)) (now (ws .entry)))) r ⌝ }
+{
+    let n = counts.n;
+    let m = counts.m;
+    graph::check(
+        counts.k,
+        n,
+        m,
+        &ks[0..n],
+        &cs[0..n],
+        &ps[0..n],
+        &es[0..n],
+        &gs[0..n],
+        &fs[0..m],
+        &ts[0..m],
+        &ws[0..m],
+    )
+}
+
+// Hands the graph that was parsed over where it is accepted.
 fn settle(
     kinds: &mut [u8],
     checks: &mut [u16],
@@ -293,22 +326,7 @@ fn settle(
     requires { ⌜ ((counts .n ≤ 1024) × (counts .m ≤ 4096)) × Room (lentOf (now kinds) (now checks) (now privileged) (now entries) (now grants) (now froms) (now tos) (now ways)) × Room (lentOf (now ks) (now cs) (now ps) (now es) (now gs) (now fs) (now ts) (now ws)) ⌝ }
     ensures { λ r. ⌜ Settles counts (lentOf (now (ks .entry)) (now (cs .entry)) (now (ps .entry)) (now (es .entry)) (now (gs .entry)) (now (fs .entry)) (now (ts .entry)) (now (ws .entry))) (lentOf (now (kinds .entry)) (now (checks .entry)) (now (privileged .entry)) (now (entries .entry)) (now (grants .entry)) (now (froms .entry)) (now (tos .entry)) (now (ways .entry))) r (lentOf (now (kinds .exit)) (now (checks .exit)) (now (privileged .exit)) (now (entries .exit)) (now (grants .exit)) (now (froms .exit)) (now (tos .exit)) (now (ways .exit))) ⌝ }
 {
-    let k = counts.k;
-    let n = counts.n;
-    let m = counts.m;
-    let judged = graph::check(
-        k,
-        n,
-        m,
-        &ks[0..n],
-        &cs[0..n],
-        &ps[0..n],
-        &es[0..n],
-        &gs[0..n],
-        &fs[0..m],
-        &ts[0..m],
-        &ws[0..m],
-    );
+    let judged = judge(ks, cs, ps, es, gs, fs, ts, ws, counts);
     if let Judged::Refused(why) = judged {
         return Reading::Refused(why);
     }
@@ -323,10 +341,14 @@ fn settle(
         ps,
         es,
         gs,
-        n,
+        counts.n,
     );
-    store_edges(froms, tos, ways, fs, ts, ws, m);
-    Reading::Graph { k, n, m }
+    store_edges(froms, tos, ways, fs, ts, ws, counts.m);
+    Reading::Graph {
+        k: counts.k,
+        n: counts.n,
+        m: counts.m,
+    }
 }
 
 // Reads a text into slices that have room.
@@ -389,6 +411,38 @@ fn read_sized(
     }
 }
 
+// Whether the slices and the text have the lengths that they may have.
+enum Sizes {
+    Fit,
+    NoRoom,
+    TooLong,
+}
+
+fn judge_sizes(
+    kinds: usize,
+    checks: usize,
+    privileged: usize,
+    entries: usize,
+    grants: usize,
+    froms: usize,
+    tos: usize,
+    ways: usize,
+    text: usize,
+) -> Sizes
+    ensures { λ r. ⌜ SizesSo kinds checks privileged entries grants froms tos ways text r ⌝ }
+{
+    if !graph::nodes_long(1024, kinds, checks, privileged, entries, grants) {
+        return Sizes::NoRoom;
+    }
+    if !graph::edges_long(4096, froms, tos, ways) {
+        return Sizes::NoRoom;
+    }
+    if 65536 < text {
+        return Sizes::TooLong;
+    }
+    Sizes::Fit
+}
+
 // Reads a text into slices of 1,024 and 4,096 places: stores the graph in their first places, or refuses and stores nothing.
 pub fn read(
     kinds: &mut [u8],
@@ -403,31 +457,30 @@ pub fn read(
 ) -> Reading
     ensures { λ r. ⌜ Tells (reading (lentOf (now (kinds .entry)) (now (checks .entry)) (now (privileged .entry)) (now (entries .entry)) (now (grants .entry)) (now (froms .entry)) (now (tos .entry)) (now (ways .entry))) (now (s .entry))) (lentOf (now (kinds .entry)) (now (checks .entry)) (now (privileged .entry)) (now (entries .entry)) (now (grants .entry)) (now (froms .entry)) (now (tos .entry)) (now (ways .entry))) r (lentOf (now (kinds .exit)) (now (checks .exit)) (now (privileged .exit)) (now (entries .exit)) (now (grants .exit)) (now (froms .exit)) (now (tos .exit)) (now (ways .exit))) ⌝ }
 {
-    if !graph::nodes_long(
-        1024,
+    let sizes = judge_sizes(
         kinds.len(),
         checks.len(),
         privileged.len(),
         entries.len(),
         grants.len(),
-    ) {
-        return Reading::Refused(Refusal::Shape);
+        froms.len(),
+        tos.len(),
+        ways.len(),
+        s.len(),
+    );
+    match sizes {
+        Sizes::NoRoom => Reading::Refused(Refusal::Shape),
+        Sizes::TooLong => Reading::Refused(Refusal::TooLong),
+        Sizes::Fit => read_sized(
+            kinds,
+            checks,
+            privileged,
+            entries,
+            grants,
+            froms,
+            tos,
+            ways,
+            s,
+        ),
     }
-    if !graph::edges_long(4096, froms.len(), tos.len(), ways.len()) {
-        return Reading::Refused(Refusal::Shape);
-    }
-    if 65536 < s.len() {
-        return Reading::Refused(Refusal::TooLong);
-    }
-    read_sized(
-        kinds,
-        checks,
-        privileged,
-        entries,
-        grants,
-        froms,
-        tos,
-        ways,
-        s,
-    )
 }

@@ -22,13 +22,14 @@ use Rattle.records.specs.declared.Node.{Node}
 use Rattle.records.specs.declared.Edge.{Edge}
 use Rattle.records.specs.declared.Counts.{Counts}
 use Rattle.records.specs.Records.{kept}
+use Rattle.text.specs.declared.Sizes.the-variants.{Fit, NoRoom, TooLong}
 use Rattle.text.specs.declared.Parsed.{Parsed}
 use Rattle.text.specs.declared.Parsed.the-variants.{Counted, Wrong}
 use Rattle.text.specs.declared.Reading.{Reading}
 use Rattle.text.specs.declared.Reading.the-variants as answer
 use Rattle.text.specs.Text.{Meaning, says, wrong, textAt, kinds, checks, privilegeds, entries, grants, froms, tos, ways, graphFrom, Lent, lentOf, roomy, Outcome, read, refused, onJudged, onMeaning, reading, Stores, Tells, stored, refuses}
 use Rattle.text.specs.Text.Kept.{keptAll, kept-judges, kept-same}
-use Rattle.text.specs.Text.Parts.{Room, Parses, counted, faulty, heldGraph, Copied, Settles, settled, unsettled}
+use Rattle.text.specs.Text.Parts.{Room, Parses, counted, faulty, heldGraph, Copied, Settles, settled, unsettled, SizesSo, cramped, long, fit}
 use Rattle.text.specs.Text.Copies.{take-sets}
 
 pub room-nodes : {x : Lent} → Room x → NodesLong 1024 (length (x .kinds)) (length (x .checks)) (length (x .privileged)) (length (x .entries)) (length (x .grants))
@@ -144,7 +145,7 @@ wrong-tells s from row e = refuses (ap onMeaning e)
 
 -- ---- the slices' lengths and the text's
 
-pub room : {x : Lent} → NodesLong 1024 (length (x .kinds)) (length (x .checks)) (length (x .privileged)) (length (x .entries)) (length (x .grants))
+room : {x : Lent} → NodesLong 1024 (length (x .kinds)) (length (x .checks)) (length (x .privileged)) (length (x .entries)) (length (x .grants))
     → EdgesLong 4096 (length (x .froms)) (length (x .tos)) (length (x .ways)) → Room x
 room n e = record {
   kinds-long = n .kinds-long;
@@ -167,18 +168,30 @@ room? x =
     (λ r. ((r .kinds-long, (r .checks-long, (r .privileged-long, (r .entries-long, r .grants-long)))), (r .froms-long, (r .tos-long, r .ways-long))))
 
 module _ (x : Lent) (s : List ℕ) where
-  pub reading-short : (Room x → ⊥) → reading x s ≡ refused (1 at 0)
+  reading-short : (Room x → ⊥) → reading x s ≡ refused (1 at 0)
   unfolding reading
   reading-short d = rw (false-says (room? x) d) refl
 
   module _ (r : Room x) where
-    pub reading-long : 65536 < length s → reading x s ≡ refused (12 at 0)
+    reading-long : 65536 < length s → reading x s ≡ refused (12 at 0)
     unfolding reading
     reading-long h = rw (true-says (room? x) r, lt-ltb 65536 (length s) h) refl
 
-    pub reading-sized : length s ≤ 65536 → reading x s ≡ onMeaning (textAt s 0 1)
+    reading-sized : length s ≤ 65536 → reading x s ≡ onMeaning (textAt s 0 1)
     unfolding reading
     reading-sized h = rw (true-says (room? x) r, le-ltb 65536 (length s) h) refl
+
+  pub sizes-short : SizesSo (length (x .kinds)) (length (x .checks)) (length (x .privileged)) (length (x .entries)) (length (x .grants)) (length (x .froms)) (length (x .tos)) (length (x .ways)) (length s) NoRoom
+      → reading x s ≡ refused (1 at 0)
+  sizes-short (cramped d) = reading-short (λ r. d (room-nodes r, room-edges r))
+
+  pub sizes-long : SizesSo (length (x .kinds)) (length (x .checks)) (length (x .privileged)) (length (x .entries)) (length (x .grants)) (length (x .froms)) (length (x .tos)) (length (x .ways)) (length s) TooLong
+      → reading x s ≡ refused (12 at 0)
+  sizes-long (long n e h) = reading-long (room n e) h
+
+  pub sizes-fit : SizesSo (length (x .kinds)) (length (x .checks)) (length (x .privileged)) (length (x .entries)) (length (x .grants)) (length (x .froms)) (length (x .tos)) (length (x .ways)) (length s) Fit
+      → Room x × (reading x s ≡ onMeaning (textAt s 0 1))
+  sizes-fit (fit n e h) = (room n e, reading-sized (room n e) h)
 
 pub tells-by : {o p : Outcome} {before after : Lent} {r : Reading} → o ≡ p → Tells p before r after → Tells o before r after
 tells-by {before = before} {after = after} {r = r} e t = subst (λ (q : Outcome). Tells q before r after) (sym e) t

@@ -1,12 +1,12 @@
 -- What the parts of the reader say.
-use Prim.Native.Nat.{ℕ, zero, suc, _+_, _≤_}
+use Prim.Native.Nat.{ℕ, zero, suc, _+_, _≤_, _<_}
 use mathlib.Core.Path.{_≡_}
 use mathlib.Core.List.{List, [], _∷_, map}
 use mathlib.Core.Bool.{cond}
 use lib.ListN.{length, take}
 use lib.Seq.{sets}
 use lib.Dec.{ltb}
-use Rattle.graph.specs.Graph.{Graph, graphOf, Ranges}
+use Rattle.graph.specs.Graph.{Graph, graphOf, Ranges, NodesLong, EdgesLong}
 use Rattle.graph.specs.Judge.{Judges}
 use Rattle.graph.specs.declared.Refusal.{Refusal}
 use Rattle.graph.specs.declared.Judged.the-variants as judged
@@ -14,6 +14,8 @@ use Rattle.records.specs.declared.Node.{Node}
 use Rattle.records.specs.declared.Edge.{Edge}
 use Rattle.records.specs.declared.Counts.{Counts}
 use Rattle.records.specs.Records.{Got, got, no, onGot, nodeAt, kept}
+use Rattle.text.specs.declared.Sizes.{Sizes}
+use Rattle.text.specs.declared.Sizes.the-variants.{Fit, NoRoom, TooLong}
 use Rattle.text.specs.declared.Ran.{Ran}
 use Rattle.text.specs.declared.Ran.the-variants.{Past, Stop}
 use Rattle.text.specs.declared.Reading.{Reading}
@@ -141,3 +143,10 @@ pub data Settles (c : Counts) (held before : Lent) : Reading → Lent → Type 0
   settled : {after : Lent} → Judges (heldGraph (c .k) (c .n) (c .m) held) judged.Accepted → Copied c held before after
       → Settles c held before (answer.Graph (c .k) (c .n) (c .m)) after
   unsettled : {r : Refusal} → Judges (heldGraph (c .k) (c .n) (c .m) held) (judged.Refused r) → Settles c held before (answer.Refused r) before
+
+-- ---- the lengths of the slices and of the text
+
+pub data SizesSo (kinds checks privileged entries grants froms tos ways text : ℕ) : Sizes → Type 0 where
+  cramped : (NodesLong 1024 kinds checks privileged entries grants × EdgesLong 4096 froms tos ways → ⊥) → SizesSo kinds checks privileged entries grants froms tos ways text NoRoom
+  long : NodesLong 1024 kinds checks privileged entries grants → EdgesLong 4096 froms tos ways → 65536 < text → SizesSo kinds checks privileged entries grants froms tos ways text TooLong
+  fit : NodesLong 1024 kinds checks privileged entries grants → EdgesLong 4096 froms tos ways → text ≤ 65536 → SizesSo kinds checks privileged entries grants froms tos ways text Fit

@@ -95,15 +95,15 @@ fn follow(s: &[u8], start: usize, end: usize, a: usize) -> Lexed
             next: a,
         };
     }
-    let b = peek(s, a);
-    if b == 44 {
+    let mark = peek(s, a);
+    if mark == 44 {
         return Lexed::More {
             start,
             end,
             next: a + 1,
         };
     }
-    if b == 13 {
+    if mark == 13 {
         let l = peek(s, a + 1);
         if l == 10 {
             return Lexed::Last {

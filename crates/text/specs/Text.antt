@@ -5,6 +5,7 @@ pub mod Slots
 pub mod Ends
 pub mod Copies
 pub mod Laws
+pub mod Gateway
 use Prim.Native.Nat.{ℕ, zero, suc, _+_}
 use mathlib.Core.Path.{_≡_}
 use mathlib.Core.List.{List, [], _∷_, map}

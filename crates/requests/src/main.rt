@@ -226,6 +226,7 @@ fn answer_text(bytes: &[u8]) {
     let mut tos = [9u16; 4096];
     let mut ways = [BLANK; 4096];
     let reading = text::read(
+        bytes,
         &mut kinds,
         &mut checks,
         &mut privileged,
@@ -234,7 +235,6 @@ fn answer_text(bytes: &[u8]) {
         &mut froms,
         &mut tos,
         &mut ways,
-        bytes,
     );
     match reading {
         Reading::Graph { k, n, m } => print_graph(

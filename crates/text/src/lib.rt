@@ -445,6 +445,7 @@ fn judge_sizes(
 
 // Reads a text into slices of 1,024 and 4,096 places: stores the graph in their first places, or refuses and stores nothing.
 pub fn read(
+    text: &[u8],
     kinds: &mut [u8],
     checks: &mut [u16],
     privileged: &mut [u8],
@@ -453,9 +454,8 @@ pub fn read(
     froms: &mut [u16],
     tos: &mut [u16],
     ways: &mut [u8],
-    s: &[u8],
 ) -> Reading
-    ensures { λ r. ⌜ Tells (reading (lentOf (now (kinds .entry)) (now (checks .entry)) (now (privileged .entry)) (now (entries .entry)) (now (grants .entry)) (now (froms .entry)) (now (tos .entry)) (now (ways .entry))) (now (s .entry))) (lentOf (now (kinds .entry)) (now (checks .entry)) (now (privileged .entry)) (now (entries .entry)) (now (grants .entry)) (now (froms .entry)) (now (tos .entry)) (now (ways .entry))) r (lentOf (now (kinds .exit)) (now (checks .exit)) (now (privileged .exit)) (now (entries .exit)) (now (grants .exit)) (now (froms .exit)) (now (tos .exit)) (now (ways .exit))) ⌝ }
+    ensures { λ r. ⌜ Tells (reading (lentOf (now (kinds .entry)) (now (checks .entry)) (now (privileged .entry)) (now (entries .entry)) (now (grants .entry)) (now (froms .entry)) (now (tos .entry)) (now (ways .entry))) (now (text .entry))) (lentOf (now (kinds .entry)) (now (checks .entry)) (now (privileged .entry)) (now (entries .entry)) (now (grants .entry)) (now (froms .entry)) (now (tos .entry)) (now (ways .entry))) r (lentOf (now (kinds .exit)) (now (checks .exit)) (now (privileged .exit)) (now (entries .exit)) (now (grants .exit)) (now (froms .exit)) (now (tos .exit)) (now (ways .exit))) ⌝ }
 {
     let sizes = judge_sizes(
         kinds.len(),
@@ -466,7 +466,7 @@ pub fn read(
         froms.len(),
         tos.len(),
         ways.len(),
-        s.len(),
+        text.len(),
     );
     match sizes {
         Sizes::NoRoom => Reading::Refused(Refusal::Shape),
@@ -480,7 +480,7 @@ pub fn read(
             froms,
             tos,
             ways,
-            s,
+            text,
         ),
     }
 }

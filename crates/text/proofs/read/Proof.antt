@@ -19,7 +19,7 @@ enum-told-3 c = search needs
 read-sized-requires : tie.Need-read-sized-requires
 read-sized-requires c κs =
     let a = c .before .before .before .before .before .before .before .before .before .before .before .before .before .before .before .before .before .before .before .before .args in
-    sizes-fit _ (a .s .now) (rw (c .before .before .before .before .before .before .before .before .enum-told3 .given .1) at (c .before .before .before .before .before .before .before .before .before .before .judge-sizes .ensures)) .0
+    sizes-fit _ (a .text .now) (rw (c .before .before .before .before .before .before .before .before .enum-told3 .given .1) at (c .before .before .before .before .before .before .before .before .before .before .judge-sizes .ensures)) .0
 
 returns : tie.Need-returns
 returns c = refuses (sizes-short _ _ (rw (c .enum-told .given .1) at (c .before .before .judge-sizes .ensures)))

@@ -1,0 +1,67 @@
+use borrow.Author.Needs.{needs}
+use lib.ListN.{length}
+use mathlib.Core.Path.{_≡_}
+use Prim.Native.Nat.{_≤_, _-_}
+use Rattle.text_cases.proofs.put_quoted.Statement.{statement}
+use Rattle.text_cases.proofs.put_quoted.Tie as tie
+
+abbrev Inv-loop : tie.InvT-loop
+Inv-loop to₀ text end₀ i₀ i-end to end i = (i ≤ i-end) × (i-end ≡ length text)
+
+abbrev μ-loop : tie.MeasureT-loop
+μ-loop to₀ text end₀ i₀ i-end to end i = i-end - i
+
+loop-holds : tie.Need-loop-holds Inv-loop μ-loop
+loop-holds c = search needs
+
+starts-field-requires : tie.Need-starts-field-requires Inv-loop μ-loop
+starts-field-requires c κs = search needs
+
+put-quote-if-requires : tie.Need-put-quote-if-requires Inv-loop μ-loop
+put-quote-if-requires c κs = search needs
+
+ends-field-requires : tie.Need-ends-field-requires Inv-loop μ-loop
+ends-field-requires c κs = search needs
+
+put-quote-if-requires-2 : tie.Need-put-quote-if-requires-2 Inv-loop μ-loop
+put-quote-if-requires-2 c κs = search needs
+
+shared-slice-read-put : tie.Need-shared-slice-read-put Inv-loop μ-loop
+shared-slice-read-put c = search needs
+
+put-requires : tie.Need-put-requires Inv-loop μ-loop
+put-requires c κs = search needs
+
+add-i : tie.Need-add-i Inv-loop μ-loop
+add-i c = search needs
+
+loop-less : tie.Need-loop-less Inv-loop μ-loop
+loop-less c = search needs
+
+loop-again : tie.Need-loop-again Inv-loop μ-loop
+loop-again c = search needs
+
+put-end-requires : tie.Need-put-end-requires Inv-loop μ-loop
+put-end-requires c κs = search needs
+
+returns : tie.Need-returns Inv-loop μ-loop
+returns c = search needs
+
+pub put-quoted-spec : {M : Type 1} → statement M
+put-quoted-spec =
+    tie.close
+    (tie.spec
+    Inv-loop
+    μ-loop
+    loop-holds
+    starts-field-requires
+    put-quote-if-requires
+    ends-field-requires
+    put-quote-if-requires-2
+    shared-slice-read-put
+    put-requires
+    add-i
+    loop-less
+    loop-again
+    put-end-requires
+    returns)

@@ -533,12 +533,27 @@ pub enum Finding {
     NeverReached,
 }
 
+impl Finding {
+    // Document 01's number of the verdict.
+    pub fn number(self) -> usize
+        ensures { λ r. ⌜ r ≡ verdictNumber self ⌝ }
+    {
+        match self {
+            Finding::Needed => 0,
+            Finding::AlwaysPasses => 1,
+            Finding::AlwaysFails => 2,
+            Finding::NeverReached => 3,
+        }
+    }
+}
+
 pub enum Ruling {
     Given(Finding),
     Refused(Refusal),
 }
 
-fn judge_check(denied: bool, granted: bool) -> Finding
+// The verdict where the check's permission is in the denied set or not, and in the granted set or not.
+pub fn judge_check(denied: bool, granted: bool) -> Finding
     ensures { λ r. ⌜ verdictNumber r ≡ verdictOf denied granted ⌝ }
 {
     if denied {

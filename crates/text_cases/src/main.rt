@@ -120,6 +120,7 @@ fn show_reading(
     match answer {
         Reading::Graph { k, n, m } => {
             show_graph(k, n, m);
+            show_stored_first(keeps_nodes(kinds, checks, privileged, entries, grants, 0));
             show_kept(
                 keeps_nodes(kinds, checks, privileged, entries, grants, n),
                 keeps_edges(froms, tos, ways, m),
@@ -142,7 +143,15 @@ fn show_graph(k: usize, n: usize, m: usize) {
     print_number(n);
     print(b" ");
     print_number(m);
-    print(b", rest ");
+}
+
+// A graph has a node, so that an accepted text is seen to be stored by the same comparison that sees nothing stored after a refusal.
+fn show_stored_first(kept: bool) {
+    if kept {
+        print(b", NOT STORED, rest ");
+        return;
+    }
+    print(b", stored, rest ");
 }
 
 fn show_refused(number: usize, place: usize) {
@@ -248,10 +257,10 @@ fn is_row_end(text: &[u8], i: usize) -> bool {
     if text.len() <= i {
         return false;
     }
-    if text[i] != 13 {
+    if text[i] != b'\r' {
         return false;
     }
-    peek(text, i + 1) == 10
+    peek(text, i + 1) == b'\n'
 }
 
 // Whether what ends just before i is a row end.
@@ -266,7 +275,7 @@ fn follows_comma(text: &[u8], i: usize) -> bool {
     if i == 0 {
         return false;
     }
-    peek(text, i - 1) == 44
+    peek(text, i - 1) == b','
 }
 
 fn starts_field(text: &[u8], i: usize) -> bool {
@@ -280,7 +289,7 @@ fn starts_field(text: &[u8], i: usize) -> bool {
 }
 
 fn ends_field(text: &[u8], i: usize) -> bool {
-    if peek(text, i) == 44 {
+    if peek(text, i) == b',' {
         return true;
     }
     is_row_end(text, i)
@@ -288,7 +297,7 @@ fn ends_field(text: &[u8], i: usize) -> bool {
 
 fn put_quote_if(to: &mut [u8; 65537], at: usize, really: bool) -> usize {
     if really {
-        return put(to, at, 34);
+        return put(to, at, b'"');
     }
     at
 }
@@ -303,7 +312,7 @@ fn put_end(to: &mut [u8; 65537], at: usize, text: &[u8]) -> usize {
         return at;
     }
     let a = put_quote_if(to, at, follows_comma(text, len));
-    put(to, a, 34)
+    put(to, a, b'"')
 }
 
 // The text with a quote before and after every field.
@@ -319,7 +328,7 @@ fn put_quoted(to: &mut [u8; 65537], text: &[u8]) -> usize {
 
 fn has_quote(text: &[u8]) -> bool {
     for i in 0..text.len() {
-        if text[i] == 34 {
+        if text[i] == b'"' {
             return true;
         }
     }
@@ -332,6 +341,7 @@ fn answer_quoted(text: &[u8]) {
     answer_built(&quoted, len);
 }
 
+// A part is taken of a slice and not of the array: the check knows no part of a reference to an array.
 fn answer_built(built: &[u8; 65537], len: usize) {
     answer_first(built, len);
 }
@@ -350,61 +360,91 @@ fn show_answers(text: &[u8]) {
     print(b"\n");
 }
 
-// Puts the row that is given, or the three parts where it is the row to be replaced.
-fn put_row(
-    to: &mut [u8; 65537],
-    at: usize,
-    number: usize,
-    given: &[u8],
-    row: usize,
-    before: &[u8],
-    field: &[u8],
-    after: &[u8],
-) -> usize {
-    if number != row {
-        return put_text(to, at, given);
+fn less(n: usize, by: usize) -> usize {
+    if n < by {
+        return 0;
     }
-    let a = put_text(to, at, before);
-    let b = put_text(to, a, field);
-    put_text(to, b, after)
+    n - by
 }
 
-fn put_nodes(to: &mut [u8; 65537], row: usize, before: &[u8], field: &[u8], after: &[u8]) -> usize {
-    let a = put_row(to, 0, 1, b"G,2,8,8,,\r\n", row, before, field, after);
-    let b = put_row(to, a, 2, b"N,0,C,,E,0 1\r\n", row, before, field, after);
-    let c = put_row(to, b, 3, b"N,1,C,,E,1\r\n", row, before, field, after);
-    let d = put_row(to, c, 4, b"N,2,K,0,,0 1\r\n", row, before, field, after);
-    let e = put_row(to, d, 5, b"N,3,R,,,0 1\r\n", row, before, field, after);
-    let f = put_row(to, e, 6, b"N,4,C,,P,0 1\r\n", row, before, field, after);
-    let g = put_row(to, f, 7, b"N,5,K,0,,0 1\r\n", row, before, field, after);
-    let h = put_row(to, g, 8, b"N,6,R,,,0 1\r\n", row, before, field, after);
-    put_row(to, h, 9, b"N,7,R,,,1\r\n", row, before, field, after)
+fn part(s: &[u8], from: usize, to: usize) -> &[u8] {
+    let end = at_most(to, s.len());
+    let start = at_most(from, end);
+    &s[start..end]
 }
 
-fn put_edges(
+fn rows_left(rows: usize, b: u8) -> usize {
+    if b == b'\n' {
+        return less(rows, 1);
+    }
+    rows
+}
+
+// Where so many rows end.
+fn rows_end(text: &[u8], rows: usize) -> usize {
+    let mut left = rows;
+    for i in 0..text.len() {
+        if left == 0 {
+            return i;
+        }
+        left = rows_left(left, text[i]);
+    }
+    text.len()
+}
+
+// The text with three parts in place of one of its rows, the row's end included. Row 0 is before the first.
+fn put_changed(
     to: &mut [u8; 65537],
-    at: usize,
+    text: &[u8],
     row: usize,
     before: &[u8],
     field: &[u8],
     after: &[u8],
 ) -> usize {
-    let a = put_row(to, at, 10, b"E,0,2,C,,\r\n", row, before, field, after);
-    let b = put_row(to, a, 11, b"E,1,2,C,,\r\n", row, before, field, after);
-    let c = put_row(to, b, 12, b"E,2,3,T,,\r\n", row, before, field, after);
-    let d = put_row(to, c, 13, b"E,1,4,C,,\r\n", row, before, field, after);
-    let e = put_row(to, d, 14, b"E,4,5,C,,\r\n", row, before, field, after);
-    let f = put_row(to, e, 15, b"E,5,6,T,,\r\n", row, before, field, after);
-    let g = put_row(to, f, 16, b"E,4,6,T,,\r\n", row, before, field, after);
-    let h = put_row(to, g, 17, b"E,1,7,T,,\r\n", row, before, field, after);
-    put_row(to, h, 18, b"", row, before, field, after)
+    let a = put_text(to, 0, part(text, 0, rows_end(text, less(row, 1))));
+    let b = put_text(to, a, before);
+    let c = put_text(to, b, field);
+    let d = put_text(to, c, after);
+    put_text(to, d, part(text, rows_end(text, row), text.len()))
 }
 
-// The answers on the worked gateway with three parts in place of one of its rows, the row's end included.
+// Row 18 is past the last.
+fn put_gateway(
+    to: &mut [u8; 65537],
+    row: usize,
+    before: &[u8],
+    field: &[u8],
+    after: &[u8],
+) -> usize {
+    put_changed(
+        to,
+        b"G,2,8,8,,\r\n\
+          N,0,C,,E,0 1\r\n\
+          N,1,C,,E,1\r\n\
+          N,2,K,0,,0 1\r\n\
+          N,3,R,,,0 1\r\n\
+          N,4,C,,P,0 1\r\n\
+          N,5,K,0,,0 1\r\n\
+          N,6,R,,,0 1\r\n\
+          N,7,R,,,1\r\n\
+          E,0,2,C,,\r\n\
+          E,1,2,C,,\r\n\
+          E,2,3,T,,\r\n\
+          E,1,4,C,,\r\n\
+          E,4,5,C,,\r\n\
+          E,5,6,T,,\r\n\
+          E,4,6,T,,\r\n\
+          E,1,7,T,,\r\n",
+        row,
+        before,
+        field,
+        after,
+    )
+}
+
 fn show_changed(row: usize, before: &[u8], field: &[u8], after: &[u8]) {
     let mut text = [0u8; 65537];
-    let at = put_nodes(&mut text, row, before, field, after);
-    let len = put_edges(&mut text, at, row, before, field, after);
+    let len = put_gateway(&mut text, row, before, field, after);
     show_built(&text, len);
 }
 
@@ -435,46 +475,6 @@ fn show_case(name: &[u8], row: usize, bytes: &[u8]) {
     show_field(row, b"", name, bytes, b"", b"");
 }
 
-// A number in each place that has one: 1 is right in every place but the counts.
-fn show_number(name: &[u8], field: &[u8]) {
-    show_field(1, b"K, ", name, b"G,", field, b",8,8,,\r\n");
-    show_field(1, b"N, ", name, b"G,2,", field, b",8,,\r\n");
-    show_field(1, b"M, ", name, b"G,2,8,", field, b",,\r\n");
-    show_field(3, b"own number, ", name, b"N,", field, b",C,,E,1\r\n");
-    show_field(4, b"check, ", name, b"N,2,K,", field, b",,0 1\r\n");
-    show_field(9, b"grants, ", name, b"N,7,R,,,", field, b"\r\n");
-    show_field(10, b"to, ", name, b"E,0,", field, b",C,,\r\n");
-    show_field(17, b"from, ", name, b"E,", field, b",7,T,,\r\n");
-}
-
-fn show_count(digits: &[u8]) {
-    show_field(1, b"K ", digits, b"G,", digits, b",8,8,,\r\n");
-    show_field(1, b"N ", digits, b"G,2,", digits, b",8,,\r\n");
-    show_field(1, b"M ", digits, b"G,2,8,", digits, b",,\r\n");
-}
-
-fn show_beyond(digits: &[u8]) {
-    show_field(2, b"grants ", digits, b"N,0,C,,E,", digits, b"\r\n");
-    show_field(4, b"check ", digits, b"N,2,K,", digits, b",,0 1\r\n");
-    show_field(9, b"grants ", digits, b"N,7,R,,,", digits, b"\r\n");
-    show_field(10, b"from ", digits, b"E,", digits, b",2,C,,\r\n");
-    show_field(10, b"to ", digits, b"E,0,", digits, b",C,,\r\n");
-    show_field(17, b"from ", digits, b"E,", digits, b",7,T,,\r\n");
-    show_field(17, b"to ", digits, b"E,1,", digits, b",T,,\r\n");
-}
-
-// What the entries of a table are.
-enum Entry {
-    // A name, a row and the bytes in its place.
-    Row,
-    // A name and a number for each place.
-    Number,
-    // A number for each count.
-    Count,
-    // A number for each permission and edge end.
-    Beyond,
-}
-
 // The first place of a byte, or the length where there is none.
 fn find(s: &[u8], b: u8) -> usize
     ensures { λ r. ⌜ r ≤ length (now (s .entry)) ⌝ }
@@ -487,10 +487,13 @@ fn find(s: &[u8], b: u8) -> usize
     s.len()
 }
 
-fn part(s: &[u8], from: usize, to: usize) -> &[u8] {
-    let end = at_most(to, s.len());
-    let start = at_most(from, end);
-    &s[start..end]
+// The first of the parts between which there is a bar.
+fn first(entry: &[u8]) -> &[u8] {
+    part(entry, 0, find(entry, b'|'))
+}
+
+fn others(entry: &[u8]) -> &[u8] {
+    part(entry, find(entry, b'|') + 1, entry.len())
 }
 
 fn digit(b: u8) -> usize {
@@ -508,21 +511,89 @@ fn row_number(s: &[u8]) -> usize {
     0
 }
 
-fn show_row(name: &[u8], rest: &[u8]) {
-    let bar = find(rest, b'|');
-    show_case(
+// A field in a place: the place's name, its row, and what is before and after the field.
+fn show_place(place: &[u8], name: &[u8], field: &[u8]) {
+    let row = others(place);
+    let around = others(row);
+    show_field(
+        row_number(first(row)),
+        first(place),
         name,
-        row_number(part(rest, 0, bar)),
-        part(rest, bar + 1, rest.len()),
+        first(around),
+        field,
+        others(around),
     );
 }
 
+fn show_places(places: &[u8], name: &[u8], field: &[u8]) {
+    let mut start: usize = 0;
+    let mut i: usize = 0;
+    while i < places.len() {
+        if places[i] == b';' {
+            show_place(part(places, start, i), name, field);
+            start = i + 1;
+        }
+        i += 1;
+    }
+}
+
+// 1 is right in every place but the counts.
+fn show_number(name: &[u8], field: &[u8]) {
+    show_places(
+        b"K, |1|G,|,8,8,,\r\n;\
+          N, |1|G,2,|,8,,\r\n;\
+          M, |1|G,2,8,|,,\r\n;\
+          own number, |3|N,|,C,,E,1\r\n;\
+          check, |4|N,2,K,|,,0 1\r\n;\
+          grants, |9|N,7,R,,,|\r\n;\
+          to, |10|E,0,|,C,,\r\n;\
+          from, |17|E,|,7,T,,\r\n;",
+        name,
+        field,
+    );
+}
+
+fn show_count(digits: &[u8]) {
+    show_places(
+        b"K |1|G,|,8,8,,\r\n;\
+          N |1|G,2,|,8,,\r\n;\
+          M |1|G,2,8,|,,\r\n;",
+        digits,
+        digits,
+    );
+}
+
+fn show_beyond(digits: &[u8]) {
+    show_places(
+        b"grants |2|N,0,C,,E,|\r\n;\
+          check |4|N,2,K,|,,0 1\r\n;\
+          grants |9|N,7,R,,,|\r\n;\
+          from |10|E,|,2,C,,\r\n;\
+          to |10|E,0,|,C,,\r\n;\
+          from |17|E,|,7,T,,\r\n;\
+          to |17|E,1,|,T,,\r\n;",
+        digits,
+        digits,
+    );
+}
+
+// What the entries of a table are.
+enum Entry {
+    // A name, a row and the bytes in its place.
+    Row,
+    // A name and a number for each place.
+    Number,
+    // A number for each count.
+    Count,
+    // A number for each permission and edge end.
+    Beyond,
+}
+
 fn show_entry(what: Entry, entry: &[u8]) {
-    let bar = find(entry, b'|');
-    let name = part(entry, 0, bar);
-    let rest = part(entry, bar + 1, entry.len());
+    let name = first(entry);
+    let rest = others(entry);
     match what {
-        Entry::Row => show_row(name, rest),
+        Entry::Row => show_case(name, row_number(first(rest)), others(rest)),
         Entry::Number => show_number(name, rest),
         Entry::Count => show_count(name),
         Entry::Beyond => show_beyond(name),
@@ -606,7 +677,6 @@ fn show_starts() {
     );
 }
 
-// Row 18 is what comes after the last row.
 fn show_ends() {
     show_table(
         Entry::Row,
@@ -1111,8 +1181,7 @@ fn show_gateway() {
     print(b"worked gateway");
     show_changed(0, b"", b"", b"");
     let mut text = [0u8; 65537];
-    let at = put_nodes(&mut text, 0, b"", b"", b"");
-    let len = put_edges(&mut text, at, 0, b"", b"", b"");
+    let len = put_gateway(&mut text, 0, b"", b"", b"");
     store_built(&text, len);
 }
 
@@ -1196,13 +1265,6 @@ fn show_len(name: &[u8], built: &[u8; 65537], len: usize) {
     print(b"\n");
 }
 
-fn less(n: usize, by: usize) -> usize {
-    if n < by {
-        return 0;
-    }
-    n - by
-}
-
 fn show_largest() {
     let mut text = [0u8; 65537];
     let len = put_largest(&mut text, 1206);
@@ -1210,7 +1272,7 @@ fn show_largest() {
     show_len(b"no row end after it", &text, less(len, 2));
     show_len(b"five fields in its last row", &text, less(len, 3));
     show_len(b"its last row missing", &text, less(len, 11));
-    let longer = put(&mut text, len, 120);
+    let longer = put(&mut text, len, b'x');
     show_len(b"one more byte", &text, longer);
 }
 
@@ -1219,22 +1281,19 @@ fn show_extra_row() {
     let mut text = [0u8; 65537];
     let len = put_largest(&mut text, 1205);
     show_len(b"largest graph, shorter", &text, len);
-    let longer = put(&mut text, len, 120);
+    let longer = put(&mut text, len, b'x');
     show_len(b"one more byte", &text, longer);
 }
 
 fn show_long_texts() {
-    let text = [120u8; 65537];
-    print(b"65536 bytes of x: ");
-    answer(&text[0..65536], NO_SLICE, 0);
-    print(b"\n65537 bytes of x: ");
-    answer(&text, NO_SLICE, 0);
-    print(b"\n");
+    let text = [b'x'; 65537];
+    show_len(b"only x", &text, 65536);
+    show_len(b"only x", &text, 65537);
 }
 
 // A text that is accepted where the slices are right, and one that is too long.
 fn show_slice(slice: usize, len: usize) {
-    let long = [120u8; 65537];
+    let long = [b'x'; 65537];
     print_slice(slice);
     print(b" of ");
     print_number(len);

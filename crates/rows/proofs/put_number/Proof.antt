@@ -1,0 +1,39 @@
+use mathlib.Core.Path.{_∙_, subst}
+use native.Mathlib.Omega.{arith}
+use Rattle.rows.specs.Result.Pieces.{decimal-digits, fewest-short}
+use borrow.Author.Needs.{needs}
+use Rattle.rows.proofs.put_number.Statement.{statement}
+use Rattle.rows.proofs.put_number.Tie as tie
+
+decimal-requires : tie.Need-decimal-requires
+decimal-requires c κs = search needs
+
+array-share-prefix-digits : tie.Need-array-share-prefix-digits
+array-share-prefix-digits c = search needs
+
+slice-aggregate-put-all : tie.Need-slice-aggregate-put-all
+slice-aggregate-put-all c = search needs
+
+put-all-requires : tie.Need-put-all-requires
+put-all-requires c κs =
+    let d = c .before .before .decimal in
+    omega (arith, fewest-short _ _ (d .ensures .1 .0) (search needs), d .ensures .0 .1)
+
+same-length : tie.Need-same-length
+same-length c = search needs
+
+returns : tie.Need-returns
+returns c =
+    let d = c .before .before .before .before .before .decimal in
+    rw (d .ensures .1 .1 ∙ decimal-digits 20 _ _ (d .ensures .1 .0) (fewest-short _ _ (d .ensures .1 .0) (search needs))) at (c .before .before .put-all .ensures)
+
+pub put-number-spec : {M : Type 1} → statement M
+put-number-spec =
+    tie.close
+    (tie.spec
+    decimal-requires
+    array-share-prefix-digits
+    slice-aggregate-put-all
+    put-all-requires
+    same-length
+    returns)

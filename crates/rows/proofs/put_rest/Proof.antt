@@ -1,0 +1,60 @@
+use Prim.Native.Nat.{_-_}
+use native.Mathlib.Omega.{arith}
+use lib.ListN.{length}
+use Rattle.rows.specs.Result.Pieces.{puts-long, Spacing, spacing-start, spacing-more, spacing-end}
+use borrow.Author.Needs.{needs}
+use Rattle.rows.proofs.put_rest.Statement.{statement}
+use Rattle.rows.proofs.put_rest.Tie as tie
+
+abbrev Inv-loop : tie.InvT-loop
+Inv-loop out₀ at list next₀ i₀ out next i = Spacing list out₀ at next i out
+
+abbrev μ-loop : tie.MeasureT-loop
+μ-loop out₀ at list next₀ i₀ out next i = length list - i
+
+loop-holds : tie.Need-loop-holds Inv-loop μ-loop
+loop-holds c = spacing-start
+
+put-requires : tie.Need-put-requires Inv-loop μ-loop
+put-requires c κs = omega (arith, c .before .before .loop .inv .low, c .before .before .loop .inv .inside, c .before .before .before .before .before .pre .0, c .before .before .before .before .before .pre .1)
+
+shared-slice-read-put-number : tie.Need-shared-slice-read-put-number Inv-loop μ-loop
+shared-slice-read-put-number c = search needs
+
+cast-put-number : tie.Need-cast-put-number Inv-loop μ-loop
+cast-put-number c = omega (arith, c .shared-slice-known2 .given (c .before .before .before .before .before .before .before .loop .i))
+
+put-number-requires : tie.Need-put-number-requires Inv-loop μ-loop
+put-number-requires c κs = omega (arith, c .before .before .before .before .before .before .before .loop .inv .low, c .before .before .before .before .before .before .loop-test .taken, c .before .before .before .before .put .ensures .answer, c .before .before .before .before .before .before .before .before .before .before .pre .0, c .before .before .before .before .before .before .before .before .before .before .pre .1)
+
+add-i : tie.Need-add-i Inv-loop μ-loop
+add-i c = search needs
+
+loop-less : tie.Need-loop-less Inv-loop μ-loop
+loop-less c = search needs
+
+loop-again : tie.Need-loop-again Inv-loop μ-loop
+loop-again c = spacing-more (c .before .before .before .before .before .before .before .before .before .before .loop .inv) (c .before .before .before .before .before .before .before .before .before .loop-test .taken) (c .before .before .before .before .before .before .before .put .ensures) (c .before .before .put-number .ensures)
+
+same-length : tie.Need-same-length Inv-loop μ-loop
+same-length c = puts-long (c .before .loop .inv .so-far)
+
+returns : tie.Need-returns Inv-loop μ-loop
+returns c = spacing-end (c .before .loop .inv) (c .loop-test .left)
+
+pub put-rest-spec : {M : Type 1} → statement M
+put-rest-spec =
+    tie.close
+    (tie.spec
+    Inv-loop
+    μ-loop
+    loop-holds
+    put-requires
+    shared-slice-read-put-number
+    cast-put-number
+    put-number-requires
+    add-i
+    loop-less
+    loop-again
+    same-length
+    returns)

@@ -1,0 +1,49 @@
+use mathlib.Core.Path.{sym, ap, ap₂, _∙_}
+use mathlib.Core.Bool.{Bool}
+use Rattle.graph.specs.Graph.{verdictOf}
+use Rattle.rows.specs.Result.{decimal}
+use Rattle.rows.specs.Result.Pieces.{puts-as, puts-none, verdict-none, verdict-some}
+use borrow.Author.Needs.{needs}
+use Rattle.rows.proofs.put_verdict.Statement.{statement}
+use Rattle.rows.proofs.put_verdict.Tie as tie
+
+returns : tie.Need-returns
+returns c = puts-as (sym (verdict-none _ _ _ _ (c .if1 .taken))) puts-none
+
+has-requires : tie.Need-has-requires
+has-requires c κs = search needs
+
+has-requires-2 : tie.Need-has-requires-2
+has-requires-2 c κs = search needs
+
+judge-check-requires : tie.Need-judge-check-requires
+judge-check-requires c κs = search needs
+
+number-requires : tie.Need-number-requires
+number-requires c κs = search needs
+
+put-number-requires : tie.Need-put-number-requires
+put-number-requires c κs = search needs
+
+same-length : tie.Need-same-length
+same-length c = search needs
+
+returns-2 : tie.Need-returns-2
+returns-2 c =
+    let a = c .before .before .before .before .before .before .before .before .before .before .args in
+    puts-as
+    (ap decimal (c .before .before .before .number .ensures ∙ c .before .before .before .before .judge-check .ensures ∙ ap₂ verdictOf (c .before .before .before .before .before .before .before .has .ensures) (c .before .before .before .before .before .before .has2 .ensures)) ∙ sym (verdict-some (a .kind) (a .check) (a .denied) (a .granted) (c .before .before .before .before .before .before .before .before .if1 .left)))
+    (c .before .before .put-number .ensures)
+
+pub put-verdict-spec : {M : Type 1} → statement M
+put-verdict-spec =
+    tie.close
+    (tie.spec
+    returns
+    has-requires
+    has-requires-2
+    judge-check-requires
+    number-requires
+    put-number-requires
+    same-length
+    returns-2)

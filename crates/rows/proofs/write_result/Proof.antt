@@ -1,0 +1,40 @@
+use borrow.Author.Tests.{not-true, not-false}
+use Rattle.truth.specs.Truth.Tests.{says-true, says-false}
+use Rattle.rows.specs.Result.{shape, result}
+use Rattle.rows.specs.Result.Calls.{writes-none, writes-all}
+use borrow.Author.Needs.{needs}
+use Rattle.rows.proofs.write_result.Statement.{statement}
+use Rattle.rows.proofs.write_result.Tie as tie
+
+is-long-requires : tie.Need-is-long-requires
+is-long-requires c κs = search needs
+
+returns : tie.Need-returns
+returns c = shape (says-false (c .before .is-long .ensures) (not-true _ (c .if1 .taken)))
+
+count-result-requires : tie.Need-count-result-requires
+count-result-requires c κs = says-true (c .before .is-long .ensures) (not-false _ (c .if1 .left))
+
+returns-2 : tie.Need-returns-2
+returns-2 c = result (says-true (c .before .before .before .is-long .ensures) (not-false _ (c .before .before .if1 .left))) (writes-none (c .before .count-result .ensures) (c .if2 .taken))
+
+put-result-requires : tie.Need-put-result-requires
+put-result-requires c κs = says-true (c .before .before .before .before .is-long .ensures) (not-false _ (c .before .before .before .if1 .left))
+
+same-length : tie.Need-same-length
+same-length c = search needs
+
+returns-3 : tie.Need-returns-3
+returns-3 c = result (says-true (c .before .before .before .before .before .before .before .is-long .ensures) (not-false _ (c .before .before .before .before .before .before .if1 .left))) (writes-all (c .before .before .before .before .before .count-result .ensures) (c .before .before .before .before .if2 .left) (c .before .before .put-result .ensures))
+
+pub write-result-spec : {M : Type 1} → statement M
+write-result-spec =
+    tie.close
+    (tie.spec
+    is-long-requires
+    returns
+    count-result-requires
+    returns-2
+    put-result-requires
+    same-length
+    returns-3)

@@ -1,0 +1,99 @@
+-- The bytes that a result is printed as, and what the calls that write them promise. Definitions alone. 44 is the comma, 32 the space, 13 CR, 10 LF.
+pub mod Pieces
+pub mod Calls
+use Prim.Native.Nat.{ℕ, zero, suc, _+_, _/_, _%_, _≤_}
+use mathlib.Core.Path.{_≡_}
+use mathlib.Core.List.{List, [], _∷_, _++_}
+use mathlib.Core.Bool.{Bool, true, false, cond}
+use lib.ListN.{length, getD}
+use lib.Seq.{sets}
+use lib.Dec.{eqb, ltb}
+use Rattle.io.specs.Digits.{glyph}
+use Rattle.sets.specs.Sets.{has}
+use Rattle.graph.specs.Graph.{verdictOf}
+use Rattle.graph.specs.Refusals.{numbered}
+use Rattle.graph.specs.declared.Refusal.{Refusal}
+use Rattle.graph.specs.declared.Refusal.the-variants as why
+use Rattle.rows.specs.declared.Written.{Written}
+use Rattle.rows.specs.declared.Written.the-variants.{Bytes, Refused}
+
+-- ---- Bytes
+
+-- A number in decimal; 20 digits hold every number of 64 bits.
+unfoldable pub decimalBy : (most n : ℕ) → List ℕ
+decimalBy zero n = []
+decimalBy (suc most) n = cond (ltb n 10) (glyph n ∷ []) (decimalBy most (n / 10) ++ (glyph (n % 10) ∷ []))
+
+abbrev pub decimal : ℕ → List ℕ
+decimal = decimalBy 20
+
+-- The members of a set from p on, so many numbers looked at, lowest first.
+unfoldable pub membersFrom : (set p count : ℕ) → List ℕ
+membersFrom set p zero = []
+membersFrom set p (suc count) = cond (has set p) (p ∷ membersFrom set (p + 1) count) (membersFrom set (p + 1) count)
+
+-- Numbers with one space between.
+unfoldable pub afterFirst : List ℕ → List ℕ
+afterFirst [] = []
+afterFirst (p ∷ ps) = 32 ∷ decimal p ++ afterFirst ps
+
+abbrev pub spaced : List ℕ → List ℕ
+spaced [] = []
+spaced (p ∷ ps) = decimal p ++ afterFirst ps
+
+abbrev pub setBytes : ℕ → List ℕ
+setBytes set = spaced (membersFrom set 0 64)
+
+-- The verdict of a check (kind 2); empty at any other node.
+abbrev pub verdictBytes : (kind check denied granted : ℕ) → List ℕ
+verdictBytes kind check denied granted = cond (eqb kind 2) (decimal (verdictOf (has denied check) (has granted check))) []
+
+-- ---- Rows
+
+abbrev pub rowBytes : (node kind check denied granted : ℕ) → List ℕ
+rowBytes node kind check denied granted =
+    decimal node ++ 44 ∷ setBytes denied ++ 44 ∷ setBytes granted ++ 44 ∷ verdictBytes kind check denied granted ++ 13 ∷ 10 ∷ []
+
+-- "node,denied,granted,verdict" and "refused,".
+abbrev pub headerBytes : List ℕ
+headerBytes =
+    110 ∷ 111 ∷ 100 ∷ 101 ∷ 44 ∷ 100 ∷ 101 ∷ 110 ∷ 105 ∷ 101 ∷ 100 ∷ 44 ∷ 103 ∷ 114 ∷ 97 ∷ 110 ∷ 116 ∷ 101 ∷ 100 ∷ 44 ∷ 118 ∷ 101 ∷ 114 ∷ 100 ∷ 105 ∷ 99 ∷ 116 ∷ 13 ∷ 10 ∷ []
+
+abbrev pub refusedBytes : List ℕ
+refusedBytes = 114 ∷ 101 ∷ 102 ∷ 117 ∷ 115 ∷ 101 ∷ 100 ∷ 44 ∷ []
+
+-- The rows of so many nodes, from node i on.
+unfoldable pub rowsFrom : (kinds checks denied granted : List ℕ) (i count : ℕ) → List ℕ
+rowsFrom kinds checks denied granted i zero = []
+rowsFrom kinds checks denied granted i (suc count) =
+    rowBytes i (getD kinds i 0) (getD checks i 0) (getD denied i 0) (getD granted i 0) ++ rowsFrom kinds checks denied granted (i + 1) count
+
+abbrev pub resultBytes : (n : ℕ) (kinds checks denied granted : List ℕ) → List ℕ
+resultBytes n kinds checks denied granted = headerBytes ++ rowsFrom kinds checks denied granted 0 n
+
+abbrev pub refusalRow : (number place : ℕ) → List ℕ
+refusalRow number place = refusedBytes ++ decimal number ++ 44 ∷ decimal place ++ 13 ∷ 10 ∷ []
+
+abbrev pub refusalBytes : Refusal → List ℕ
+refusalBytes r = refusalRow (numbered r .number) (numbered r .place)
+
+-- ---- The calls
+
+-- Every slice has an entry for each of at most 1,024 nodes.
+pub record Long (n kinds checks denied granted : ℕ) : Type 0 where
+  pub few : n ≤ 1024
+  pub kinds-long : kinds ≡ n
+  pub checks-long : checks ≡ n
+  pub denied-long : denied ≡ n
+  pub granted-long : granted ≡ n
+
+-- Bytes at the start of a buffer, and how many; or refusal 10 where it is too short for them, and nothing stored.
+pub data Writes (bytes before : List ℕ) : Written → List ℕ → Type 0 where
+  written : length bytes ≤ length before → Writes bytes before (Bytes (length bytes)) (sets before 0 bytes)
+  too-short : (length bytes ≤ length before → ⊥) → Writes bytes before (Refused why.NoRoom) before
+
+-- Refusal 1 for the slices' lengths comes first.
+pub data WritesResult (n : ℕ) (kinds checks denied granted before : List ℕ) : Written → List ℕ → Type 0 where
+  shape : (Long n (length kinds) (length checks) (length denied) (length granted) → ⊥) → WritesResult n kinds checks denied granted before (Refused why.Shape) before
+  result : {r : Written} {after : List ℕ} → Long n (length kinds) (length checks) (length denied) (length granted) → Writes (resultBytes n kinds checks denied granted) before r after
+      → WritesResult n kinds checks denied granted before r after

@@ -1,0 +1,181 @@
+// Reads a graph's text from standard input and writes the result's rows, or the refusal's, to standard output.
+use graph::Judged;
+use graph::Refusal;
+use libc::STDIN_FILENO;
+use libc::STDOUT_FILENO;
+use rows::Written;
+use text::Reading;
+ghost use Prim.Native.Nat.{_≤_};
+ghost use lib.ListN.{length};
+
+fn at_most(n: usize, most: usize) -> usize
+    ensures { λ r. ⌜ r ≤ most ⌝ }
+{
+    if most < n { most } else { n }
+}
+
+fn write_first(out: &[u8], count: usize) {
+    let n = at_most(count, out.len());
+    io::write_all(STDOUT_FILENO, &out[0..n]);
+}
+
+fn refuse(why: Refusal) {
+    let mut out = [0u8; 64];
+    if let Written::Bytes(count) = rows::write_refusal(&mut out, why) {
+        write_first(&out, count);
+    }
+}
+
+// A row takes at most 372 bytes: a number below 1,024, two sets of 64 permissions and a verdict.
+fn write_rows(n: usize, kinds: &[u8], checks: &[u16], denied: &[u64], granted: &[u64])
+    requires { ⌜ (n ≤ length (now kinds)) × (n ≤ length (now checks)) × (n ≤ length (now denied)) × (n ≤ length (now granted)) ⌝ }
+{
+    let mut out = [0u8; 381000];
+    let written = rows::write_result(
+        &mut out,
+        n,
+        &kinds[0..n],
+        &checks[0..n],
+        &denied[0..n],
+        &granted[0..n],
+    );
+    match written {
+        Written::Bytes(count) => write_first(&out, count),
+        Written::Refused(why) => refuse(why),
+    }
+}
+
+// Solves the graph that the first n and m places of the slices hold.
+fn solve(
+    k: usize,
+    n: usize,
+    m: usize,
+    kinds: &[u8],
+    checks: &[u16],
+    privileged: &[u8],
+    entries: &[u8],
+    grants: &[u64],
+    froms: &[u16],
+    tos: &[u16],
+    ways: &[u8],
+    denied: &mut [u64],
+    granted: &mut [u64],
+) -> Judged
+    requires { ⌜ (n ≤ length (now kinds)) × (n ≤ length (now checks)) × (n ≤ length (now privileged)) × (n ≤ length (now entries)) × (n ≤ length (now grants)) ⌝ }
+    requires { ⌜ (m ≤ length (now froms)) × (m ≤ length (now tos)) × (m ≤ length (now ways)) × (m ≤ 4096) ⌝ }
+    requires { ⌜ (n ≤ length (now denied)) × (n ≤ length (now granted)) ⌝ }
+{
+    let mut may = [0u64; 4096];
+    let mut sure = [0u64; 4096];
+    solver::solve(
+        k,
+        n,
+        m,
+        &kinds[0..n],
+        &checks[0..n],
+        &privileged[0..n],
+        &entries[0..n],
+        &grants[0..n],
+        &froms[0..m],
+        &tos[0..m],
+        &ways[0..m],
+        &mut denied[0..n],
+        &mut granted[0..n],
+        &mut may[0..m],
+        &mut sure[0..m],
+    )
+}
+
+fn solve_and_write(
+    k: usize,
+    n: usize,
+    m: usize,
+    kinds: &[u8; 1024],
+    checks: &[u16; 1024],
+    privileged: &[u8; 1024],
+    entries: &[u8; 1024],
+    grants: &[u64; 1024],
+    froms: &[u16; 4096],
+    tos: &[u16; 4096],
+    ways: &[u8; 4096],
+) {
+    let nodes = at_most(n, 1024);
+    let edges = at_most(m, 4096);
+    let mut denied = [0u64; 1024];
+    let mut granted = [0u64; 1024];
+    let judged = solve(
+        k,
+        nodes,
+        edges,
+        kinds,
+        checks,
+        privileged,
+        entries,
+        grants,
+        froms,
+        tos,
+        ways,
+        &mut denied,
+        &mut granted,
+    );
+    match judged {
+        Judged::Accepted => write_rows(nodes, kinds, checks, &denied, &granted),
+        Judged::Refused(why) => refuse(why),
+    }
+}
+
+fn answer(text: &[u8]) {
+    let mut kinds = [0u8; 1024];
+    let mut checks = [0u16; 1024];
+    let mut privileged = [0u8; 1024];
+    let mut entries = [0u8; 1024];
+    let mut grants = [0u64; 1024];
+    let mut froms = [0u16; 4096];
+    let mut tos = [0u16; 4096];
+    let mut ways = [0u8; 4096];
+    let reading = text::read(
+        text,
+        &mut kinds,
+        &mut checks,
+        &mut privileged,
+        &mut entries,
+        &mut grants,
+        &mut froms,
+        &mut tos,
+        &mut ways,
+    );
+    match reading {
+        Reading::Graph { k, n, m } => solve_and_write(
+            k,
+            n,
+            m,
+            &kinds,
+            &checks,
+            &privileged,
+            &entries,
+            &grants,
+            &froms,
+            &tos,
+            &ways,
+        ),
+        Reading::Refused(why) => refuse(why),
+    }
+}
+
+// Whether standard input has a byte more than the text buffer holds.
+fn has_more() -> bool {
+    let mut byte = [0u8; 1];
+    0 < io::read_full(STDIN_FILENO, &mut byte)
+}
+
+fn main() {
+    let mut buffer = [0u8; 65536];
+    let count = io::read_full(STDIN_FILENO, &mut buffer);
+    if count == 65536 {
+        if has_more() {
+            refuse(Refusal::TooLong);
+            return;
+        }
+    }
+    answer(&buffer[..count]);
+}

@@ -1,0 +1,10 @@
+mod build;
+mod cases;
+mod gateway;
+mod graph_check;
+mod limits;
+mod looks_right;
+mod machine_refusals;
+mod paper_example;
+mod properties;
+mod text_table;

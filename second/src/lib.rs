@@ -1,10 +1,14 @@
 //! A plain second implementation of the stack-inspection analysis, for comparison.
 
+pub mod compare;
+pub mod fresh;
 pub mod graph;
 pub mod machine;
+pub mod requests;
 pub mod rows;
 pub mod sets;
 pub mod solve;
+pub mod tally;
 pub mod text;
 
 #[cfg(test)]

@@ -1,40 +1,70 @@
 //! What the program prints for a text.
 
-use crate::graph::{Graph, Refusal};
+use crate::graph::{Refusal, CHECK, MOST_NODES, MOST_PERMISSIONS};
 use crate::sets;
-use crate::solve::{self, Solution};
+use crate::solve;
 use crate::text;
 
 pub const HEADER: &str = "node,denied,granted,verdict\r\n";
 
 pub fn result_of(text: &[u8]) -> String {
-    match text::read_graph(text).and_then(|graph| result_rows(&graph)) {
-        Ok(rows) => rows,
-        Err(refusal) => refused_row(refusal),
-    }
+    solved_rows(text).unwrap_or_else(refused_row)
 }
 
-fn result_rows(graph: &Graph) -> Result<String, Refusal> {
-    let solution = solve::solve(graph)?;
-    let mut rows = HEADER.to_string();
-    for node in 0..graph.n {
-        rows.push_str(&node_row(graph, &solution, node)?);
-    }
-    Ok(rows)
-}
-
-fn node_row(graph: &Graph, solution: &Solution, node: usize) -> Result<String, Refusal> {
-    let denied = spaced(solution.denied[node]);
-    let granted = spaced(solution.granted[node]);
-    let verdict = if graph.is_check(node) {
-        solve::verdict(graph, &solution.denied, &solution.granted, node)?.to_string()
-    } else {
-        String::new()
+fn solved_rows(text: &[u8]) -> Result<String, Refusal> {
+    let graph = text::read_graph(text)?;
+    let solution = solve::solve(&graph)?;
+    let found = Found {
+        n: graph.n,
+        kinds: &graph.kinds,
+        checks: &graph.checks,
+        denied: &solution.denied,
+        granted: &solution.granted,
     };
-    Ok(format!("{node},{denied},{granted},{verdict}\r\n"))
+    found.rows()
 }
 
-fn spaced(set: u64) -> String {
+/// All that the rows are printed from. It is no graph yet, so a check permission may be any number.
+pub struct Found<'a> {
+    pub n: usize,
+    pub kinds: &'a [u8],
+    pub checks: &'a [u16],
+    pub denied: &'a [u64],
+    pub granted: &'a [u64],
+}
+
+impl Found<'_> {
+    pub fn rows(&self) -> Result<String, Refusal> {
+        if self.n > MOST_NODES || !self.lengths_fit() {
+            return Err(Refusal::without_place(1));
+        }
+        let rows: String = (0..self.n).map(|node| self.row(node)).collect();
+        Ok(HEADER.to_string() + &rows)
+    }
+
+    fn lengths_fit(&self) -> bool {
+        let lengths =
+            [self.kinds.len(), self.checks.len(), self.denied.len(), self.granted.len()];
+        lengths.iter().all(|&length| length == self.n)
+    }
+
+    fn row(&self, node: usize) -> String {
+        let denied = spaced(self.denied[node]);
+        let granted = spaced(self.granted[node]);
+        format!("{node},{denied},{granted},{}\r\n", self.verdict(node))
+    }
+
+    fn verdict(&self, node: usize) -> String {
+        if self.kinds[node] != CHECK {
+            return String::new();
+        }
+        let permission = usize::from(self.checks[node]);
+        let holds = |set| permission < MOST_PERMISSIONS && sets::holds(set, permission);
+        solve::verdict_of(holds(self.denied[node]), holds(self.granted[node])).to_string()
+    }
+}
+
+pub fn spaced(set: u64) -> String {
     let members: Vec<String> =
         sets::members(set).iter().map(|permission| permission.to_string()).collect();
     members.join(" ")

@@ -68,12 +68,16 @@ pub fn verdict(graph: &Graph, denied: &[u64], granted: &[u64], node: usize) -> R
     let permission = graph.checked_permission(node);
     let is_denied = sets::holds(denied[node], permission);
     let is_granted = sets::holds(granted[node], permission);
-    Ok(match (is_denied, is_granted) {
+    Ok(verdict_of(is_denied, is_granted))
+}
+
+pub fn verdict_of(is_denied: bool, is_granted: bool) -> u8 {
+    match (is_denied, is_granted) {
         (false, false) => NEEDED,
         (false, true) => ALWAYS_PASSES,
         (true, false) => ALWAYS_FAILS,
         (true, true) => NEVER_REACHED,
-    })
+    }
 }
 
 pub(crate) fn least_may(graph: &Graph, incoming: &[Vec<usize>]) -> Vec<u64> {

@@ -5,7 +5,7 @@ use lex::Listed;
 use lex::Piece;
 ghost use mathlib.Core.Path.{_≡_};
 ghost use lib.ListN.{length, getD};
-ghost use Rattle.records.specs.Records.{letterOf, emptyOf, says, found, formAt, endAt, grantsAt, threeAt, leadAt, headerAt, nodeAt, edgeAt};
+ghost use Rattle.records.specs.Records.{letterOf, emptyOf, says, found, saidBy, formAt, endAt, grantsAt, threeAt, leadAt, headerAt, nodeAt, edgeAt};
 ghost use Rattle.records.specs.Records.Rows.{grantedOf, leadRowOf, nodeRowOf, threeRowOf, edgeRowOf, headerOf};
 
 // What a field is to be.
@@ -154,26 +154,28 @@ fn place(d: Decimal, next: usize) -> Found
     }
 }
 
-// A field of a form that a comma follows.
-fn read_field(s: &[u8], at: usize, form: Form) -> Found
-    ensures { λ r. ⌜ r ≡ formAt form (now (s .entry)) at ⌝ }
+// What a piece of the text says as a field of a form.
+fn read_piece(s: &[u8], piece: Piece, form: Form) -> Found
+    ensures { λ r. ⌜ r ≡ saidBy form (now (s .entry)) piece ⌝ }
 {
-    let piece = lex::before_comma(s, at);
     let Piece::Part { start, end, next } = piece else {
         return Found::Wrong;
     };
     place(decode(form, lex::field(s, start, end)), next)
 }
 
+// A field of a form that a comma follows.
+fn read_field(s: &[u8], at: usize, form: Form) -> Found
+    ensures { λ r. ⌜ r ≡ formAt form (now (s .entry)) at ⌝ }
+{
+    read_piece(s, lex::before_comma(s, at), form)
+}
+
 // A field of a form that the row's end follows.
 fn read_end(s: &[u8], at: usize, form: Form) -> Found
     ensures { λ r. ⌜ r ≡ endAt form (now (s .entry)) at ⌝ }
 {
-    let piece = lex::before_end(s, at);
-    let Piece::Part { start, end, next } = piece else {
-        return Found::Wrong;
-    };
-    place(decode(form, lex::field(s, start, end)), next)
+    read_piece(s, lex::before_end(s, at), form)
 }
 
 // Grants that end a row. Beyond: they have a member at 64 or above.

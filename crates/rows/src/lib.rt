@@ -4,9 +4,9 @@ use sets::Set;
 ghost use mathlib.Core.Path.{_≡_};
 ghost use mathlib.Core.List.{[], _∷_};
 ghost use Prim.Native.Nat.{_+_, _≤_, _<_};
-ghost use lib.ListN.{length, take};
+ghost use lib.ListN.{length};
 ghost use Rattle.truth.specs.Truth.{Says};
-ghost use Rattle.rows.specs.Result.{decimal, membersFrom, afterFirst, spaced, setBytes, verdictBytes, rowBytes, headerBytes, rowsFrom, resultBytes, refusalRow, refusalBytes, Long, Writes, WritesResult};
+ghost use Rattle.rows.specs.Result.{decimal, membersFrom, afterFirst, spaced, setBytes, verdictBytes, rowBytes, rowsFrom, resultBytes, refusalRow, refusalBytes, Long, Writes, WritesResult};
 ghost use Rattle.rows.specs.Result.Pieces.{Puts};
 
 // How many bytes were written, or why none was.

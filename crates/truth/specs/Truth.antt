@@ -2,6 +2,7 @@
 pub mod Bools
 pub mod Tests
 pub mod Folds
+pub mod Kit
 use Prim.Native.Nat.{ℕ, zero, suc, _≤_, _<_}
 use mathlib.Core.Bool.{Bool, true, false, cond, _&&_, _||_}
 use lib.Dec.{ltb}

@@ -4,7 +4,7 @@ use mathlib.Core.Path.{_≡_, refl, ap, sym, _∙_}
 use mathlib.Core.Bool.{Bool, true, false, cond}
 use mathlib.Core.List.{List, [], _∷_}
 use native.Mathlib.Numerals.{add-one}
-use native.Mathlib.Nat.{one-mul, mod-eq-of-lt, le-trans}
+use native.Mathlib.Nat.{le-trans}
 use native.Mathlib.Omega.{arith}
 use lib.ListN.{length, getD, take, drop, drop-of-length-le}
 use lib.Seq.{drop-cons, drop-drop}
@@ -13,6 +13,7 @@ use lib.Bits.{bitOr, or-add-and, and-le-l, and-le-r, or-lt}
 use lib.Pow.{pow-lt, pow-mono}
 use borrow.Author.Tests.{lt-ltb, le-ltb, ltb-true, ltb-false}
 use Rattle.truth.specs.Truth.Bools.{by-split}
+use Rattle.truth.specs.Truth.Kit.{shl-one}
 use Rattle.lex.specs.declared.Class.the-variants.{Word}
 use Rattle.lex.specs.declared.Decimal.{Decimal}
 use Rattle.lex.specs.declared.Decimal.the-variants.{Value, Not}
@@ -25,9 +26,6 @@ abbrev pub withMember : Listed → ℕ → Listed
 withMember (Held bits) v = cond (ltb v 64) (Held (bitOr bits (2 ^ v))) Beyond
 withMember Beyond v = Beyond
 withMember NoList v = NoList
-
-pub shl-one : (v : ℕ) → v < 64 → (1 * 2 ^ v) % 18446744073709551616 ≡ 2 ^ v
-shl-one v h = rw one-mul (mod-eq-of-lt (pow-lt h))
 
 or-ge-l : (a b : ℕ) → a ≤ bitOr a b
 or-ge-l a b = omega (arith, or-add-and a b, and-le-r a b)

@@ -1,9 +1,5 @@
-use mathlib.Core.Path.{sym, _∙_, ap}
-use mathlib.Core.List.{List}
-use Prim.Native.Nat.{ℕ}
-use Rattle.lex.specs.declared.Decimal.{Decimal}
-use Rattle.records.specs.Records.{says, found}
-use Rattle.records.specs.Records.Forms.{end-part, end-none}
+use mathlib.Core.Path.{_∙_}
+use Rattle.records.specs.Records.Forms.{end-said}
 use borrow.Author.Needs.{needs}
 use Rattle.records.proofs.read_end.Statement.{statement}
 use Rattle.records.proofs.read_end.Tie as tie
@@ -11,39 +7,11 @@ use Rattle.records.proofs.read_end.Tie as tie
 before-end-requires : tie.Need-before-end-requires
 before-end-requires c κs = search needs
 
-enum-known-piece : tie.Need-enum-known-piece
-enum-known-piece c = search needs
-
-enum-told : tie.Need-enum-told
-enum-told c = search needs
+read-piece-requires : tie.Need-read-piece-requires
+read-piece-requires c κs = search needs
 
 returns : tie.Need-returns
-returns c = sym (end-none _ _ _ (sym (c .before .before .before-end .ensures) ∙ c .enum-told .given .1))
-
-field-requires : tie.Need-field-requires
-field-requires c κs = search needs
-
-decode-requires : tie.Need-decode-requires
-decode-requires c κs = search needs
-
-place-requires : tie.Need-place-requires
-place-requires c κs = search needs
-
-returns-2 : tie.Need-returns-2
-returns-2 c =
-    c .place .ensures
-    ∙ ap (λ (d : Decimal). found d (c .before .before .before .before .piece .given .0 .1 .1 .0)) (c .before .decode .ensures ∙ ap (says _) (c .before .before .field .ensures))
-    ∙ sym (end-part _ _ _ (sym (c .before .before .before .before .before .before .before-end .ensures) ∙ c .before .before .before .before .piece .given .1))
+returns c = c .read-piece .ensures ∙ end-said _ _ _ (c .before .before-end .ensures)
 
 pub read-end-spec : {M : Type 1} → statement M
-read-end-spec =
-    tie.close
-    (tie.spec
-    before-end-requires
-    enum-known-piece
-    enum-told
-    returns
-    field-requires
-    decode-requires
-    place-requires
-    returns-2)
+read-end-spec = tie.close (tie.spec before-end-requires read-piece-requires returns)

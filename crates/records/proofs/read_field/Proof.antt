@@ -1,9 +1,5 @@
-use mathlib.Core.Path.{sym, _∙_, ap}
-use mathlib.Core.List.{List}
-use Prim.Native.Nat.{ℕ}
-use Rattle.lex.specs.declared.Decimal.{Decimal}
-use Rattle.records.specs.Records.{says, found}
-use Rattle.records.specs.Records.Forms.{form-part, form-none}
+use mathlib.Core.Path.{_∙_}
+use Rattle.records.specs.Records.Forms.{form-said}
 use borrow.Author.Needs.{needs}
 use Rattle.records.proofs.read_field.Statement.{statement}
 use Rattle.records.proofs.read_field.Tie as tie
@@ -11,39 +7,11 @@ use Rattle.records.proofs.read_field.Tie as tie
 before-comma-requires : tie.Need-before-comma-requires
 before-comma-requires c κs = search needs
 
-enum-known-piece : tie.Need-enum-known-piece
-enum-known-piece c = search needs
-
-enum-told : tie.Need-enum-told
-enum-told c = search needs
+read-piece-requires : tie.Need-read-piece-requires
+read-piece-requires c κs = search needs
 
 returns : tie.Need-returns
-returns c = sym (form-none _ _ _ (sym (c .before .before .before-comma .ensures) ∙ c .enum-told .given .1))
-
-field-requires : tie.Need-field-requires
-field-requires c κs = search needs
-
-decode-requires : tie.Need-decode-requires
-decode-requires c κs = search needs
-
-place-requires : tie.Need-place-requires
-place-requires c κs = search needs
-
-returns-2 : tie.Need-returns-2
-returns-2 c =
-    c .place .ensures
-    ∙ ap (λ (d : Decimal). found d (c .before .before .before .before .piece .given .0 .1 .1 .0)) (c .before .decode .ensures ∙ ap (says _) (c .before .before .field .ensures))
-    ∙ sym (form-part _ _ _ (sym (c .before .before .before .before .before .before .before-comma .ensures) ∙ c .before .before .before .before .piece .given .1))
+returns c = c .read-piece .ensures ∙ form-said _ _ _ (c .before .before-comma .ensures)
 
 pub read-field-spec : {M : Type 1} → statement M
-read-field-spec =
-    tie.close
-    (tie.spec
-    before-comma-requires
-    enum-known-piece
-    enum-told
-    returns
-    field-requires
-    decode-requires
-    place-requires
-    returns-2)
+read-field-spec = tie.close (tie.spec before-comma-requires read-piece-requires returns)

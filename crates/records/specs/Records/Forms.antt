@@ -162,21 +162,13 @@ said-below way l e =
 -- ---- a field in its row
 
 module _ (form : Form) (s : List ℕ) (at : ℕ) where
-  pub form-part : {b e n : ℕ} → commaAt s at ≡ Part b e n → formAt form s at ≡ found (says form (partOf s b e)) n
+  pub form-said : {x : Piece} → x ≡ commaAt s at → saidBy form s x ≡ formAt form s at
   unfolding formAt
-  form-part p = ap (saidBy form s) p
+  form-said e = ap (saidBy form s) e
 
-  pub form-none : commaAt s at ≡ NoPart → formAt form s at ≡ Wrong
-  unfolding formAt
-  form-none p = ap (saidBy form s) p
-
-  pub end-part : {b e n : ℕ} → lastAt s at ≡ Part b e n → endAt form s at ≡ found (says form (partOf s b e)) n
+  pub end-said : {x : Piece} → x ≡ lastAt s at → saidBy form s x ≡ endAt form s at
   unfolding endAt
-  end-part p = ap (saidBy form s) p
-
-  pub end-none : lastAt s at ≡ NoPart → endAt form s at ≡ Wrong
-  unfolding endAt
-  end-none p = ap (saidBy form s) p
+  end-said e = ap (saidBy form s) e
 
 wrong-not : {P : Type 0} {v n : ℕ} → Wrong ≡ At v n → P
 wrong-not e = let z : _≡_ {A = ℕ} 0 1 = cc in absurd (omega arith)

@@ -168,27 +168,29 @@ none-got e = let z : _≡_ {A = ℕ} 0 1 = cc in absurd (omega arith)
 got-first : {X : Type 0} {x y : X} {p q : ℕ} → got x p ≡ got y q → x ≡ y
 got-first e = cc
 
-pub lead-got : (g : Got Lead) {x : Lead} {p : ℕ} → leadRowOf g ≡ lead.At x p → g ≡ got x p
-lead-got no e = let z : _≡_ {A = ℕ} 0 1 = cc in absurd (omega arith)
-lead-got (got y q) {x} {p} e =
-    let a : y ≡ x = cc in
-    let b : q ≡ p = cc in
-    rw (a, b) refl
+abbrev pub leadRow : LeadRow → Got Lead
+leadRow (lead.At x next) = got x next
+leadRow lead.Wrong = no
 
-pub lead-no : (g : Got Lead) → leadRowOf g ≡ lead.Wrong → g ≡ no
-lead-no no e = refl
-lead-no (got y q) e = let z : _≡_ {A = ℕ} 0 1 = cc in absurd (omega arith)
+pub lead-told : (g : Got Lead) {y : LeadRow} → leadRowOf g ≡ y → g ≡ leadRow y
+lead-told (got x p) e = ap leadRow e
+lead-told no e = ap leadRow e
 
-pub three-got : (g : Got Three) {x : Three} {p : ℕ} → threeRowOf g ≡ three.At x p → g ≡ got x p
-three-got no e = let z : _≡_ {A = ℕ} 0 1 = cc in absurd (omega arith)
-three-got (got y q) {x} {p} e =
-    let a : y ≡ x = cc in
-    let b : q ≡ p = cc in
-    rw (a, b) refl
+abbrev pub threeRow : ThreeRow → Got Three
+threeRow (three.At x next) = got x next
+threeRow three.Wrong = no
 
-pub three-no : (g : Got Three) → threeRowOf g ≡ three.Wrong → g ≡ no
-three-no no e = refl
-three-no (got y q) e = let z : _≡_ {A = ℕ} 0 1 = cc in absurd (omega arith)
+pub three-told : (g : Got Three) {y : ThreeRow} → threeRowOf g ≡ y → g ≡ threeRow y
+three-told (got x p) e = ap threeRow e
+three-told no e = ap threeRow e
+
+abbrev pub headerRow : Header → Got Counts
+headerRow (header.At x next) = got x next
+headerRow header.Wrong = no
+
+pub header-told : (g : Got Counts) {y : Header} → headerOf g ≡ y → g ≡ headerRow y
+header-told (got x p) e = ap headerRow e
+header-told no e = ap headerRow e
 
 -- grants that 64 bits hold, and grants that they don't
 pub record Holds (g : Got ℕ) (bits next : ℕ) : Type 0 where
@@ -347,14 +349,3 @@ header-ranges s at {c} {p} e = by-row (threeAt 71 Number s at) refl
         by-split (rangeTest (x .a) (x .b) (x .c))
         (λ t. let i = got-first (sym (header-all s at f t) ∙ e) in subst (λ (y : Counts). Ranges (y .k) (y .n) (y .m)) i (says-true (range? _ _ _) t))
         (λ t. none-got (sym (header-out s at f t) ∙ e))
-
-pub header-got : (g : Got Counts) {x : Counts} {p : ℕ} → headerOf g ≡ header.At x p → g ≡ got x p
-header-got no e = let z : _≡_ {A = ℕ} 0 1 = cc in absurd (omega arith)
-header-got (got y q) {x} {p} e =
-    let a : y ≡ x = cc in
-    let b : q ≡ p = cc in
-    rw (a, b) refl
-
-pub header-no : (g : Got Counts) → headerOf g ≡ header.Wrong → g ≡ no
-header-no no e = refl
-header-no (got y q) e = let z : _≡_ {A = ℕ} 0 1 = cc in absurd (omega arith)

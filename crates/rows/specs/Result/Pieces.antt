@@ -7,10 +7,11 @@ use native.Mathlib.Numerals.{add-one}
 use native.Mathlib.Nat.{add-zero, pow-suc, pow-le-pow-right, mod-eq-of-lt, sub-zero}
 use native.Mathlib.Omega.{arith}
 use lib.ListN.{length, getD, take, drop, set, length-append}
-use lib.Seq.{sets, sets-eq, length-sets, take-append-seam, set-out, take-all, take-suc, length-take-le}
+use lib.Seq.{sets, length-sets, set-out, take-all, take-suc, length-take-le}
 use lib.Dec.{lit<, ltb, eqb}
 use borrow.Author.Tests.{ltb-true, ltb-false, eq-eqb, ne-eqb}
 use Rattle.truth.specs.Truth.Bools.{by-split}
+use Rattle.truth.specs.Truth.Kit.{take-sets}
 use Rattle.io.specs.Digits.{glyph, digits, Fewest}
 use Rattle.graph.specs.Graph.{verdictOf}
 use Rattle.sets.specs.Sets.{has}
@@ -214,11 +215,6 @@ puts-as {l = l} {m = m} {i = i} {j = j} e p = subst (λ x. Puts x l i j m) e p
 pub spaced-none : (l : List ℕ) → length l ≡ 0 → spaced l ≡ []
 spaced-none [] h = refl
 spaced-none (p ∷ l) h = absurd (omega arith)
-
-take-sets : (l vs : List ℕ) → length vs ≤ length l → take (length vs) (sets l 0 vs) ≡ vs
-take-sets l vs h =
-    let k : 0 + length vs ≤ length l = omega arith in
-    rw (sets-eq vs l 0 k) (take-append-seam vs (drop (0 + length vs) l))
 
 -- what is listed is read back
 pub listed : (set : ℕ) {r : ℕ} {l m : List ℕ} → length l ≡ 64 → Puts (membersFrom set 0 64) l 0 r m → (r ≤ 64) × (take (r - 0) (drop 0 m) ≡ membersFrom set 0 64)

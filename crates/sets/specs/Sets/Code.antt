@@ -3,21 +3,17 @@
 use mathlib.Core.Path.{_≡_, refl, sym, ap, _∙_}
 use mathlib.Core.Bool.{Bool}
 use Prim.Native.Nat.{ℕ, _-_, _*_, _/_, _%_, _^_, _≤_, _<_, min}
-use native.Mathlib.Nat.{mod-eq-of-lt, min-eq-left, min-eq-right, one-mul, le-of-lt}
+use native.Mathlib.Nat.{min-eq-left, min-eq-right, le-of-lt}
 use lib.Dec.{eqb}
-use lib.Pow.{pow-lt}
 use lib.Bits.{bitAnd, bitOr, bitXor}
 use borrow.Author.Tests.{lt-ltb, le-ltb}
+use Rattle.truth.specs.Truth.Kit.{shl-one}
 use Rattle.sets.specs.Sets.{has, empty, all, join, common, without, add, within, same}
 use Rattle.sets.specs.declared.Set.{Set}
 
 -- a set is its number: two answers that meet one promise are equal
 pub one-set : {a b : Set} {n : ℕ} → a .bits ≡ n → b .bits ≡ n → a ≡ b
 one-set {a} {b} p q = λ i. record { bits = (p ∙ sym q) i }
-
--- `1 << p`
-pub shl-one : (p : ℕ) → p < 64 → (1 * 2 ^ p) % 2 ^ 64 ≡ 2 ^ p
-shl-one p h = rw one-mul (mod-eq-of-lt (pow-lt h))
 
 pub empty-code : empty ≡ 0
 unfolding empty

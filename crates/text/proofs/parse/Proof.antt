@@ -1,6 +1,6 @@
 use mathlib.Core.Path.{sym, _∙_, ap}
 use native.Mathlib.Omega.{arith}
-use Rattle.records.specs.Records.Rows.{header-got, header-no, header-ranges}
+use Rattle.records.specs.Records.Rows.{header-told, header-ranges}
 use Rattle.text.specs.Text.Ends.{parse-none, parse-rest}
 use borrow.Author.Needs.{needs}
 use Rattle.text.proofs.parse.Statement.{statement}
@@ -20,7 +20,7 @@ add-parse-rows c = omega (arith, c .before .before .before .before .before .befo
 
 parse-rows-requires : tie.Need-parse-rows-requires
 parse-rows-requires c κs =
-    let r = header-ranges _ _ (header-got _ (sym (c .before .before .before .before .before .before .before .before .before .before .before .read-header .ensures) ∙ c .before .before .before .before .before .before .before .before .before .counts .given .1)) in
+    let r = header-ranges _ _ (header-told _ (sym (c .before .before .before .before .before .before .before .before .before .before .before .read-header .ensures) ∙ c .before .before .before .before .before .before .before .before .before .counts .given .1)) in
     let p = c .before .before .before .before .before .before .before .before .before .before .before .before .before .before .before .before .before .before .before .before .before .pre .1 in (
       omega (arith, c .before .before .before .before .before .before .before .before .before .before .before .before .before .before .before .before .before .before .before .before .before .pre .0),
       record {
@@ -38,7 +38,7 @@ parse-rows-requires c κs =
     )
 
 returns : tie.Need-returns
-returns c = parse-none _ _ _ (header-no _ (sym (c .before .before .read-header .ensures) ∙ c .enum-told .given .1))
+returns c = parse-none _ _ _ (header-told _ (sym (c .before .before .read-header .ensures) ∙ c .enum-told .given .1))
 
 same-length : tie.Need-same-length
 same-length c = search needs
@@ -65,7 +65,7 @@ same-length-8 : tie.Need-same-length-8
 same-length-8 c = search needs
 
 returns-2 : tie.Need-returns-2
-returns-2 c = parse-rest _ _ _ (header-got _ (sym (c .before .before .before .before .before .before .before .before .before .before .before .before .before .before .before .before .before .before .before .before .before .before .before .before .before .before .before .before .read-header .ensures) ∙ c .before .before .before .before .before .before .before .before .before .before .before .before .before .before .before .before .before .before .before .before .before .before .before .before .before .before .counts .given .1)) (c .before .before .before .before .before .before .before .before .before .before .before .before .before .before .before .before .parse-rows .ensures)
+returns-2 c = parse-rest _ _ _ (header-told _ (sym (c .before .before .before .before .before .before .before .before .before .before .before .before .before .before .before .before .before .before .before .before .before .before .before .before .before .before .before .before .read-header .ensures) ∙ c .before .before .before .before .before .before .before .before .before .before .before .before .before .before .before .before .before .before .before .before .before .before .before .before .before .before .counts .given .1)) (c .before .before .before .before .before .before .before .before .before .before .before .before .before .before .before .before .parse-rows .ensures)
 
 pub parse-spec : {M : Type 1} → statement M
 parse-spec =

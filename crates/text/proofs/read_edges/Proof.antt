@@ -3,7 +3,7 @@ use mathlib.Core.Path.{_≡_, sym, ap, _∙_}
 use native.Mathlib.Omega.{arith}
 use Rattle.text.specs.Text.{edgeRow}
 use Rattle.text.specs.Text.Parts.{endFrom}
-use Rattle.text.specs.Text.Slots.{Slot, end-start, end-out, end-stop, end-step, slot-start, slot-out, slot-stop, slot-step, edge-got, edge-no}
+use Rattle.text.specs.Text.Slots.{Slot, end-start, end-out, end-stop, end-step, slot-start, slot-out, slot-stop, slot-step, edge-told}
 use borrow.Author.Needs.{needs}
 use Rattle.text.proofs.read_edges.Statement.{statement}
 use Rattle.text.proofs.read_edges.Tie as tie
@@ -39,7 +39,7 @@ returns : tie.Need-returns Inv-loop μ-loop
 returns c =
     let v = c .before .before .before .before .loop .inv in
     let h = c .before .before .before .loop-test .taken in
-    let w = edge-no _ (sym (c .before .before .read-edge .ensures) ∙ c .enum-told .given .1) in
+    let w = edge-told _ (sym (c .before .before .read-edge .ensures) ∙ c .enum-told .given .1) in
     record { answer = end-stop _ _ _ h w (v .0); froms-so = slot-stop _ _ _ (v .1) h w; tos-so = slot-stop _ _ _ (v .2) h w; ways-so = slot-stop _ _ _ (v .3) h w }
 
 mul-froms : tie.Need-mul-froms Inv-loop μ-loop
@@ -68,7 +68,7 @@ loop-again c =
     let r = c .before .before .before in
     let h = r .before .loop-test .taken in
     let v = r .before .before .loop .inv in
-    let w = edge-got _ (sym (r .read-edge .ensures) ∙ c .before .edge .given .1) in
+    let w = edge-told _ (sym (r .read-edge .ensures) ∙ c .before .edge .given .1) in
     (end-step _ _ _ h w (v .0), slot-step _ _ _ (v .1) h w, slot-step _ _ _ (v .2) h w, slot-step _ _ _ (v .3) h w)
 
 same-length-4 : tie.Need-same-length-4 Inv-loop μ-loop

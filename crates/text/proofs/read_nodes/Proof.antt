@@ -3,7 +3,7 @@ use Prim.Native.Nat.{_-_}
 use mathlib.Core.Path.{_≡_, sym, ap, _∙_}
 use native.Mathlib.Omega.{arith}
 use Rattle.text.specs.Text.Parts.{endFrom, keptRow}
-use Rattle.text.specs.Text.Slots.{Slot, end-start, end-out, end-stop, end-step, slot-start, slot-out, slot-stop, slot-step, node-got, node-no}
+use Rattle.text.specs.Text.Slots.{Slot, end-start, end-out, end-stop, end-step, slot-start, slot-out, slot-stop, slot-step, node-told}
 use borrow.Author.Needs.{needs}
 use Rattle.text.proofs.read_nodes.Statement.{statement}
 use Rattle.text.proofs.read_nodes.Tie as tie
@@ -46,7 +46,7 @@ returns c =
     let v = c .before .before .before .before .loop .inv in
     let h = c .before .before .before .loop-test .taken in
     let l = c .before .before .before .before .loop in
-    let w = node-no (nodeAt (c .before .before .before .before .before .before .before .before .before .before .before .args .s .now) (l .p) (l .i)) (sym (c .before .before .read-node .ensures) ∙ c .enum-told .given .1) in
+    let w = node-told (nodeAt (c .before .before .before .before .before .before .before .before .before .before .before .args .s .now) (l .p) (l .i)) (sym (c .before .before .read-node .ensures) ∙ c .enum-told .given .1) in
     record { answer = end-stop _ _ _ h w (v .0); kinds-so = slot-stop _ _ _ (v .1) h w; checks-so = slot-stop _ _ _ (v .2) h w; privileged-so = slot-stop _ _ _ (v .3) h w; entries-so = slot-stop _ _ _ (v .4) h w; grants-so = slot-stop _ _ _ (v .5) h w }
 
 slice-write-kinds : tie.Need-slice-write-kinds Inv-loop μ-loop
@@ -82,7 +82,7 @@ loop-again c =
     let h = r .before .loop-test .taken in
     let v = r .before .before .loop .inv in
     let l = r .before .before .loop in
-    let w = node-got (nodeAt (c .before .before .before .before .before .before .before .before .before .before .before .before .args .s .now) (l .p) (l .i)) (sym (r .read-node .ensures) ∙ c .before .node .given .1) in
+    let w = node-told (nodeAt (c .before .before .before .before .before .before .before .before .before .before .before .before .args .s .now) (l .p) (l .i)) (sym (r .read-node .ensures) ∙ c .before .node .given .1) in
     (end-step _ _ _ h w (v .0), slot-step _ _ _ (v .1) h w, slot-step _ _ _ (v .2) h w, slot-step _ _ _ (v .3) h w, slot-step _ _ _ (v .4) h w, slot-step _ _ _ (v .5) h w)
 
 same-length-6 : tie.Need-same-length-6 Inv-loop μ-loop

@@ -1,4 +1,4 @@
--- Copies of the first places of a slice, and what is read back of one that was written.
+-- Copies of the first places of a slice.
 use Prim.Native.Nat.{ℕ, suc, _+_, _-_, _≤_, _<_}
 use mathlib.Core.Path.{_≡_, refl, sym, ap, _∙_}
 use mathlib.Core.List.{List}
@@ -6,7 +6,7 @@ use native.Mathlib.Numerals.{add-one}
 use native.Mathlib.Nat.{sub-eq-zero-of-le, sub-zero}
 use native.Mathlib.Omega.{arith}
 use lib.ListN.{length, getD, take, drop, set}
-use lib.Seq.{sets, sets-eq, drop-cons, take-append-seam}
+use lib.Seq.{sets, drop-cons}
 
 module _ (from : List ℕ) (n : ℕ) where
   pub copy-start : (to : List ℕ) → sets to 0 (take (n - 0) (drop 0 from)) ≡ sets to 0 (take n from)
@@ -20,9 +20,3 @@ module _ (from : List ℕ) (n : ℕ) where
     copy-step h k =
         let q : n - i ≡ suc (n - (i + 1)) = omega arith in
         rw (q, drop-cons from i 0 k) (rw (add-one i))
-
--- the first places of a slice that was written from its start
-pub take-sets : (l vs : List ℕ) → length vs ≤ length l → take (length vs) (sets l 0 vs) ≡ vs
-take-sets l vs h =
-    let k : 0 + length vs ≤ length l = omega arith in
-    rw (sets-eq vs l 0 k) (take-append-seam vs (drop (0 + length vs) l))

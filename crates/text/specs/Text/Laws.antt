@@ -7,6 +7,7 @@ use native.Mathlib.Omega.{arith}
 use native.Mathlib.Nat.{sub-zero}
 use lib.ListN.{length, take, drop, length-map}
 use lib.Seq.{sets, length-sets}
+use Rattle.truth.specs.Truth.Kit.{take-sets}
 use Rattle.truth.specs.Truth.{Says}
 use borrow.Author.Tests.{lt-ltb, le-ltb}
 use Rattle.truth.specs.Truth.Tests.{says-same, true-says, false-says, eq?, and?}
@@ -30,7 +31,6 @@ use Rattle.text.specs.declared.Reading.the-variants as answer
 use Rattle.text.specs.Text.{Meaning, says, wrong, textAt, kinds, checks, privilegeds, entries, grants, froms, tos, ways, graphFrom, Lent, lentOf, roomy, Outcome, read, refused, onJudged, onMeaning, reading, Stores, Tells, stored, refuses}
 use Rattle.text.specs.Text.Kept.{keptAll, kept-judges, kept-same}
 use Rattle.text.specs.Text.Parts.{Room, Parses, counted, faulty, heldGraph, Copied, Settles, settled, unsettled, SizesSo, cramped, long, fit}
-use Rattle.text.specs.Text.Copies.{take-sets}
 
 pub room-nodes : {x : Lent} → Room x → NodesLong 1024 (length (x .kinds)) (length (x .checks)) (length (x .privileged)) (length (x .entries)) (length (x .grants))
 room-nodes r = record { kinds-long = r .kinds-long; checks-long = r .checks-long; privileged-long = r .privileged-long; entries-long = r .entries-long; grants-long = r .grants-long }

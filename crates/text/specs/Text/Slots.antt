@@ -8,8 +8,10 @@ use native.Mathlib.Omega.{arith}
 use lib.ListN.{length, set, length-set}
 use lib.Seq.{sets}
 use Rattle.records.specs.declared.Node.{Node}
+use Rattle.records.specs.declared.NodeRow.{NodeRow}
 use Rattle.records.specs.declared.NodeRow.the-variants as node
 use Rattle.records.specs.declared.Edge.{Edge}
+use Rattle.records.specs.declared.EdgeRow.{EdgeRow}
 use Rattle.records.specs.declared.EdgeRow.the-variants as edge
 use Rattle.records.specs.Records.{Got, got, no, onGot, kept}
 use Rattle.records.specs.Records.Rows.{nodeRowOf, edgeRowOf}
@@ -63,24 +65,18 @@ module _ {X : Type 0} (row : (from i : ℕ) → Got X) (n from : ℕ) where
 
 -- ---- from the answer of a row's reader to the row
 
-pub node-got : (g : Got Node) {x : Node} {q : ℕ} → nodeRowOf g ≡ node.At x q → onGot g no (λ y p. got (kept y) p) ≡ got x q
-node-got no e = let z : _≡_ {A = ℕ} 0 1 = cc in absurd (omega arith)
-node-got (got y p) {x} {q} e =
-    let a : kept y ≡ x = cc in
-    let b : p ≡ q = cc in
-    rw (← a, b) refl
+abbrev pub nodeRow : NodeRow → Got Node
+nodeRow (node.At x next) = got x next
+nodeRow node.Wrong = no
 
-pub node-no : (g : Got Node) → nodeRowOf g ≡ node.Wrong → onGot g no (λ y p. got (kept y) p) ≡ no
-node-no no e = refl
-node-no (got y p) e = let z : _≡_ {A = ℕ} 0 1 = cc in absurd (omega arith)
+pub node-told : (g : Got Node) {y : NodeRow} → nodeRowOf g ≡ y → onGot g no (λ x p. got (kept x) p) ≡ nodeRow y
+node-told (got x p) e = ap nodeRow e
+node-told no e = ap nodeRow e
 
-pub edge-got : (g : Got Edge) {x : Edge} {q : ℕ} → edgeRowOf g ≡ edge.At x q → g ≡ got x q
-edge-got no e = let z : _≡_ {A = ℕ} 0 1 = cc in absurd (omega arith)
-edge-got (got y p) {x} {q} e =
-    let a : y ≡ x = cc in
-    let b : p ≡ q = cc in
-    rw (a, b) refl
+abbrev pub edgeRowAs : EdgeRow → Got Edge
+edgeRowAs (edge.At x next) = got x next
+edgeRowAs edge.Wrong = no
 
-pub edge-no : (g : Got Edge) → edgeRowOf g ≡ edge.Wrong → g ≡ no
-edge-no no e = refl
-edge-no (got y p) e = let z : _≡_ {A = ℕ} 0 1 = cc in absurd (omega arith)
+pub edge-told : (g : Got Edge) {y : EdgeRow} → edgeRowOf g ≡ y → g ≡ edgeRowAs y
+edge-told (got x p) e = ap edgeRowAs e
+edge-told no e = ap edgeRowAs e

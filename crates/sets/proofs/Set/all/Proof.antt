@@ -1,4 +1,5 @@
-use Rattle.sets.specs.Sets.Code.{all-code, all-code-past, shl-one}
+use Rattle.sets.specs.Sets.Code.{all-code, all-code-past}
+use Rattle.truth.specs.Truth.Kit.{shl-one}
 use native.Mathlib.Omega.{arith}
 use lib.Pow.{pow-pos}
 use borrow.Author.Needs.{needs}

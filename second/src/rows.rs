@@ -43,8 +43,7 @@ impl Found<'_> {
     }
 
     fn lengths_fit(&self) -> bool {
-        let lengths =
-            [self.kinds.len(), self.checks.len(), self.denied.len(), self.granted.len()];
+        let lengths = [self.kinds.len(), self.checks.len(), self.denied.len(), self.granted.len()];
         lengths.iter().all(|&length| length == self.n)
     }
 

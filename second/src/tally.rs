@@ -49,7 +49,10 @@ impl fmt::Display for Tally {
 }
 
 fn numbered(first: usize, counts: &[u64]) -> String {
-    let named: Vec<String> =
-        counts.iter().enumerate().map(|(place, count)| format!("{}: {count}", first + place)).collect();
+    let named: Vec<String> = counts
+        .iter()
+        .enumerate()
+        .map(|(place, count)| format!("{}: {count}", first + place))
+        .collect();
     named.join(", ")
 }

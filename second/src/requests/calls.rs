@@ -143,7 +143,9 @@ impl Session {
                 (self.height, self.stack) = (height, slice.clone());
                 Ok(String::new())
             }
-            Call::PrintResult { length } => self.result_rows().and_then(|rows| fitted(rows, length)),
+            Call::PrintResult { length } => {
+                self.result_rows().and_then(|rows| fitted(rows, length))
+            }
             Call::PrintRefusal { number, place, length } => {
                 fitted(printed_refusal(number, place), length)
             }
@@ -152,8 +154,7 @@ impl Session {
 
     fn solve(&mut self, lengths: [usize; 4]) -> Result<String, Refusal> {
         let [mut denied, mut granted, mut may, mut sure] = lengths.map(|length| vec![KEPT; length]);
-        let answer =
-            solve::solve_into(&self.graph, &mut denied, &mut granted, &mut may, &mut sure);
+        let answer = solve::solve_into(&self.graph, &mut denied, &mut granted, &mut may, &mut sure);
         let lines = [&denied, &granted, &may, &sure].map(|slice| line(slice));
         // The sets count as lent after a refusal too.
         (self.denied, self.granted) = (denied, granted);

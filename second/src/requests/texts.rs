@@ -36,7 +36,8 @@ pub fn answer_lengths_and_text(body: &[u8], tally: &mut Tally) -> Result<String,
     let mut lengths = [0; 8];
     let mut rest = body;
     for length in &mut lengths {
-        let space = rest.iter().position(|&byte| byte == b' ').ok_or(Malformed("a length too few"))?;
+        let space =
+            rest.iter().position(|&byte| byte == b' ').ok_or(Malformed("a length too few"))?;
         *length = numbers::as_index(numbers::read_number(&rest[..space])?);
         rest = &rest[space + 1..];
     }

@@ -26,7 +26,7 @@ E,4,6,T,,
 E,1,7,T,,
 ";
 
-const OUTPUT: &str = "node,denied,granted,verdict
+pub const OUTPUT: &str = "node,denied,granted,verdict
 0,,0 1,
 1,0,1,
 2,,1,0

@@ -50,10 +50,10 @@ fn the_solver_refuses_and_stores_nothing() {
 fn the_solver_judges_each_lent_length() {
     for wrong in 0..4 {
         for length in [0, 7, 9] {
-            let mut lent: Vec<Vec<u64>> = vec![vec![7; 8]; 4];
+            let mut lent = [(); 4].map(|()| vec![7; 8]);
             lent[wrong] = vec![7; length];
             let before = lent.clone();
-            let [a, b, c, d] = lent.get_disjoint_mut([0, 1, 2, 3]).unwrap();
+            let [a, b, c, d] = &mut lent;
             assert_eq!(solve_into(&gateway(), a, b, c, d), refusal(1, 0));
             assert_eq!(lent, before);
         }

@@ -1,5 +1,6 @@
 mod build;
 mod cases;
+mod fresh;
 mod gateway;
 mod graph_check;
 mod limits;
@@ -7,4 +8,5 @@ mod looks_right;
 mod machine_refusals;
 mod paper_example;
 mod properties;
+mod requests;
 mod text_table;

@@ -39,7 +39,8 @@ impl Request {
             b'T' => Ok(texts::answer_text(&self.body, &READER_LENGTHS, tally)),
             b'L' => texts::answer_lengths_and_text(&self.body, tally),
             b'C' => answer_calls(&self.body, tally),
-            _ => Err(Malformed("a letter that is not T, L or C")),
+            b'N' => Ok(format!("{}\n", String::from_utf8_lossy(&self.body))),
+            _ => Err(Malformed("a letter that is not T, L, C or N")),
         }
     }
 }

@@ -8,7 +8,7 @@ use second::compare::{compare, Difference, Outcome, Plan};
 use second::fresh;
 
 const USAGE: &str =
-    "usage: fresh write SEED COUNT\n       fresh compare SEED COUNT PROGRAM [ARGUMENTS...]";
+    "usage: fresh write SEED COUNT [LONGEST]\n       fresh compare SEED COUNT PROGRAM [ARGUMENTS...]";
 
 const EXCERPT: usize = 300;
 
@@ -16,21 +16,32 @@ fn main() -> ExitCode {
     let arguments: Vec<String> = env::args().skip(1).collect();
     let numbers = |place: usize| arguments.get(place).and_then(|word| word.parse::<u64>().ok());
     match (arguments.first().map(String::as_str), numbers(1), numbers(2)) {
-        (Some("write"), Some(seed), Some(count)) if arguments.len() == 3 => write(seed, count),
+        (Some("write"), Some(seed), Some(count)) if arguments.len() == 3 => {
+            write(seed, count, usize::MAX)
+        }
+        (Some("write"), Some(seed), Some(count)) if arguments.len() == 4 => {
+            let longest = numbers(3).and_then(|most| usize::try_from(most).ok());
+            longest.map_or_else(usage, |longest| write(seed, count, longest))
+        }
         (Some("compare"), Some(seed), Some(count)) if arguments.len() > 3 => {
             report(&Plan { seed, count, program: arguments[3..].to_vec() })
         }
-        _ => {
-            eprintln!("{USAGE}");
-            ExitCode::from(2)
-        }
+        _ => usage(),
     }
 }
 
-fn write(seed: u64, count: u64) -> ExitCode {
+fn usage() -> ExitCode {
+    eprintln!("{USAGE}");
+    ExitCode::from(2)
+}
+
+/// Writes the requests whose body has at most so many bytes, and passes over the others.
+fn write(seed: u64, count: u64, longest: usize) -> ExitCode {
     let mut output = io::BufWriter::new(io::stdout().lock());
     let written = (0..count)
-        .try_for_each(|index| output.write_all(&fresh::request(seed, index).to_bytes()))
+        .map(|index| fresh::request(seed, index))
+        .filter(|request| request.body.len() <= longest)
+        .try_for_each(|request| output.write_all(&request.to_bytes()))
         .and_then(|()| output.flush());
     match written {
         Ok(()) => ExitCode::SUCCESS,

@@ -4,9 +4,6 @@ use super::{graphs, Random};
 use crate::graph::{Graph, CALL_EDGE, TRANSFER_EDGE};
 use crate::sets;
 
-/// The highest check permission that is ever asked about; the protocol names no type for it.
-pub const HIGHEST_CHECK: u16 = 255;
-
 type Damage = fn(&mut Graph, &mut Random);
 
 /// The commoner ones more than once.
@@ -113,9 +110,8 @@ fn change_node(graph: &mut Graph, random: &mut Random) {
 }
 
 fn some_check(graph: &Graph, random: &mut Random) -> u16 {
-    let at_k = u16::try_from(graph.k).unwrap_or(HIGHEST_CHECK);
-    let check = random.pick(&[at_k, at_k.saturating_add(1), 1, 63, 64, 65, HIGHEST_CHECK]);
-    check.min(HIGHEST_CHECK)
+    let at_k = u16::try_from(graph.k).unwrap_or(u16::MAX);
+    random.pick(&[at_k, at_k.saturating_add(1), 1, 63, 64, 65, 256, u16::MAX])
 }
 
 fn wider_set(graph: &Graph, random: &mut Random) -> u64 {

@@ -1,7 +1,7 @@
 use borrow.Author.Needs.{needs}
 use Prim.Native.Nat.{_≤_, _-_}
-use Rattle.requests.proofs.print_set.Statement.{statement}
-use Rattle.requests.proofs.print_set.Tie as tie
+use Rattle.requests.proofs.texts.print_set.Statement.{statement}
+use Rattle.requests.proofs.texts.print_set.Tie as tie
 
 abbrev Inv-loop : tie.InvT-loop
 Inv-loop bits rest₀ some₀ p₀ t5 rest some p = p ≤ 64

@@ -1,13 +1,13 @@
 use borrow.Author.Needs.{needs}
 use Prim.Native.Nat.{_≤_, _-_}
-use Rattle.requests.proofs.print_edges.Statement.{statement}
-use Rattle.requests.proofs.print_edges.Tie as tie
+use Rattle.requests.proofs.texts.print_edges.Statement.{statement}
+use Rattle.requests.proofs.texts.print_edges.Tie as tie
 
 abbrev Inv-loop : tie.InvT-loop
-Inv-loop m froms tos ways e₀ e = e ≤ 4096
+Inv-loop m froms tos ways e₀ e = e ≤ 4097
 
 abbrev μ-loop : tie.MeasureT-loop
-μ-loop m froms tos ways e₀ e = 4096 - e
+μ-loop m froms tos ways e₀ e = 4097 - e
 
 loop-holds : tie.Need-loop-holds Inv-loop μ-loop
 loop-holds c = search needs

@@ -1,13 +1,13 @@
 use borrow.Author.Needs.{needs}
 use Prim.Native.Nat.{_≤_, _-_}
-use Rattle.requests.proofs.print_nodes.Statement.{statement}
-use Rattle.requests.proofs.print_nodes.Tie as tie
+use Rattle.requests.proofs.texts.print_nodes.Statement.{statement}
+use Rattle.requests.proofs.texts.print_nodes.Tie as tie
 
 abbrev Inv-loop : tie.InvT-loop
-Inv-loop n kinds checks privileged entries grants i₀ i = i ≤ 1024
+Inv-loop n kinds checks privileged entries grants i₀ i = i ≤ 1025
 
 abbrev μ-loop : tie.MeasureT-loop
-μ-loop n kinds checks privileged entries grants i₀ i = 1024 - i
+μ-loop n kinds checks privileged entries grants i₀ i = 1025 - i
 
 loop-holds : tie.Need-loop-holds Inv-loop μ-loop
 loop-holds c = search needs

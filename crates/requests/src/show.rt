@@ -1,0 +1,106 @@
+// The words, numbers and rows of answers, and whether what was lent was kept.
+use graph::Refusal;
+use libc::STDOUT_FILENO;
+
+// What every place of the lent slices holds before a call.
+pub const BLANK_U8: u8 = 9;
+
+pub const BLANK_U16: u16 = 9;
+
+pub const BLANK_U64: u64 = 9;
+
+pub fn print(bytes: &[u8]) {
+    io::write_all(STDOUT_FILENO, bytes);
+}
+
+pub fn print_number(n: usize) {
+    io::print_decimal(STDOUT_FILENO, n as u64);
+}
+
+pub fn print_after_comma(n: usize) {
+    print(b",");
+    print_number(n);
+}
+
+pub fn print_refusal(why: Refusal) {
+    print(b"refused");
+    print_after_comma(why.number());
+    print_after_comma(why.place());
+    print(b"\r\n");
+}
+
+// A line: a word that ends in a space, and a number.
+pub fn print_line(word: &[u8], n: usize) {
+    print(word);
+    print_number(n);
+    print(b"\n");
+}
+
+fn print_place(i: usize, n: u64) {
+    if 0 < i {
+        print(b" ");
+    }
+    io::print_decimal(STDOUT_FILENO, n);
+}
+
+pub fn print_u64s(s: &[u64]) {
+    let mut i: usize = 0;
+    while i < s.len() {
+        print_place(i, s[i]);
+        i += 1;
+    }
+    print(b"\n");
+}
+
+fn wide(x: u16) -> u64 {
+    x as u64
+}
+
+pub fn print_u16s(s: &[u16]) {
+    let mut i: usize = 0;
+    while i < s.len() {
+        print_place(i, wide(s[i]));
+        i += 1;
+    }
+    print(b"\n");
+}
+
+pub fn print_unless_kept(kept: bool) {
+    if !kept {
+        print(b"written\n");
+    }
+}
+
+// Whether the places from `from` on hold what they held before the call.
+pub fn keeps_u8(s: &[u8], from: usize) -> bool {
+    let mut i: usize = from;
+    while i < s.len() {
+        if s[i] != BLANK_U8 {
+            return false;
+        }
+        i += 1;
+    }
+    true
+}
+
+pub fn keeps_u16(s: &[u16], from: usize) -> bool {
+    let mut i: usize = from;
+    while i < s.len() {
+        if s[i] != BLANK_U16 {
+            return false;
+        }
+        i += 1;
+    }
+    true
+}
+
+pub fn keeps_u64(s: &[u64], from: usize) -> bool {
+    let mut i: usize = from;
+    while i < s.len() {
+        if s[i] != BLANK_U64 {
+            return false;
+        }
+        i += 1;
+    }
+    true
+}

@@ -45,7 +45,8 @@ struct Node {
     Edge *open_calls;
     uint64_t denied;
     uint64_t granted;
-    // The number's digits, the last one highest: a number in the text that equals this is well written.
+    // The number as a row has it, in the four bytes that end with its last digit: the comma before it, where there is room, and the digits.
+    // No field holds a comma, so that a number in the text is this node's, and well written, exactly if these bytes are the same.
     uint32_t label;
     Kind kind;
     bool privileged;
@@ -68,7 +69,7 @@ struct Refusal {
 constexpr Refusal accepted{0, 0};
 constexpr Refusal too_long{12, 0};
 
-// Zeros past the text let the short path look ahead without asking where the text ends: a zero byte stands in no row.
+// Zeros past the text let the short path look ahead without asking where the text ends: no byte that it takes is zero.
 unsigned char text[most_bytes + 1 + 64];
 Node nodes[most_nodes];
 Edge edges[most_edges];
@@ -83,6 +84,12 @@ uint64_t all_permissions;
 
 inline uint16_t load16(const void *from) {
     uint16_t word;
+    memcpy(&word, from, sizeof word);
+    return word;
+}
+
+inline uint64_t load64(const void *from) {
+    uint64_t word;
     memcpy(&word, from, sizeof word);
     return word;
 }
@@ -106,8 +113,9 @@ constexpr uint32_t quad(char a, char b, char c, char d) {
 struct Counter {
     uint32_t digits = '0';
     uint32_t length = 1;
-    // How far the digits are shifted to end at the word's top.
+    // How far the digits are shifted to end at the word's top, and a comma to stand before them there.
     uint32_t shift = 24;
+    uint32_t comma = ',' << 16;
     uint32_t step = 1;
     unsigned until_carry = 10;
     unsigned number = 0;
@@ -123,6 +131,7 @@ struct Counter {
         length = 0;
         for (unsigned rest = number; rest != 0; rest /= 10, ++length) digits = digits << 8 | ('0' + rest % 10);
         shift = 32 - 8 * length;
+        comma = length < 4 ? ',' << (24 - 8 * length) : 0;
         step = 1u << 8 * (length - 1);
         until_carry = 10;
     }
@@ -223,171 +232,32 @@ bool read_header(const unsigned char *&at, const unsigned char *text_end) {
            edge_count <= most_edges;
 }
 
-enum class Row { good, breaks_rule, wrong };
+// What the full rules say of a row, and where the next one starts.
+struct Row {
+    enum { good, breaks_rule, wrong } said;
+    const unsigned char *next;
+};
 
-__attribute__((noinline, cold)) Row read_node_fully(const unsigned char *&at, const unsigned char *text_end, unsigned number, Node &node) {
+constexpr Row wrong_row{Row::wrong, nullptr};
+
+__attribute__((noinline)) Row read_node_fully(const unsigned char *at, const unsigned char *text_end, unsigned number, Node &node) {
     Field fields[6];
-    if (!read_row(at, text_end, fields) || !fields[0].is('N')) return Row::wrong;
+    if (!read_row(at, text_end, fields) || !fields[0].is('N')) return wrong_row;
     unsigned own;
-    if (!read_number(fields[1], own) || own != number) return Row::wrong;
+    if (!read_number(fields[1], own) || own != number) return wrong_row;
     unsigned check = 0;
     if (fields[2].is('K')) {
         node.kind = check_node;
-        if (!read_number(fields[3], check)) return Row::wrong;
+        if (!read_number(fields[3], check)) return wrong_row;
     } else {
-        if (!(fields[2].is('C') || fields[2].is('R')) || !fields[3].empty()) return Row::wrong;
+        if (!(fields[2].is('C') || fields[2].is('R')) || !fields[3].empty()) return wrong_row;
         node.kind = fields[2].is('C') ? call_node : return_node;
     }
     node.check = static_cast<uint8_t>(check);
     bool beyond;
-    if (!read_marks(fields[4], node.privileged, node.entry) || !read_grants(fields[5], node.grants, beyond)) return Row::wrong;
-    return beyond || (node.kind == check_node && check >= permission_count) ? Row::breaks_rule : Row::good;
-}
-
-__attribute__((noinline, cold)) Row read_edge_fully(const unsigned char *&at, const unsigned char *text_end, Node *&from, Node *&to,
-                                                    bool &is_transfer) {
-    Field fields[6];
-    if (!read_row(at, text_end, fields) || !fields[0].is('E')) return Row::wrong;
-    unsigned from_number, to_number;
-    if (!read_number(fields[1], from_number) || !read_number(fields[2], to_number)) return Row::wrong;
-    is_transfer = fields[3].is('T');
-    if (!(is_transfer || fields[3].is('C')) || !fields[4].empty() || !fields[5].empty()) return Row::wrong;
-    if (from_number >= node_count || to_number >= node_count) return Row::breaks_rule;
-    from = &nodes[from_number];
-    to = &nodes[to_number];
-    return Row::good;
-}
-
-// ---- Reading: the short path. It says no to all that it can't take, and then has stored nothing that lasts.
-
-inline unsigned digit_of(unsigned char b) { return b - unsigned{'0'}; }
-
-// A number below 100 with no needless zeros, and the comma after it.
-inline bool take_permission(const unsigned char *&at, unsigned &value) {
-    value = digit_of(at[0]);
-    if (value > 9) return false;
-    unsigned second = digit_of(at[1]);
-    if (second <= 9) {
-        if (value == 0) return false;
-        value = value * 10 + second;
-        ++at;
-    }
-    at += 2;
-    return at[-1] == ',';
-}
-
-inline bool take_marks(const unsigned char *&at, Node &node) {
-    node.privileged = *at == 'P';
-    at += node.privileged;
-    node.entry = *at == 'E';
-    at += node.entry;
-    return *at++ == ',';
-}
-
-// Grants below 64 and the row's end. Since they ascend, none of one digit follows one of two.
-inline bool take_grants(const unsigned char *&at, uint64_t &set) {
-    const unsigned char *p = at;
-    uint64_t members = 0;
-    unsigned char after = *p++;
-    if (after != '\r') {
-        --p;
-        // The least number that may come next.
-        unsigned low = 0;
-        for (;;) {
-            after = p[1];
-            if (after != ' ' && after != '\r') break;
-            unsigned v = digit_of(p[0]);
-            if (v > 9 || v < low) return false;
-            members |= uint64_t{1} << v;
-            low = v + 1;
-            p += 2;
-            if (after == '\r') break;
-        }
-        if (after != '\r') {
-            if (low < 10) low = 10;
-            do {
-                unsigned second = digit_of(p[1]);
-                unsigned v = digit_of(p[0]) * 10 + second;
-                if (second > 9 || v < low || v >= most_permissions) return false;
-                members |= uint64_t{1} << v;
-                low = v + 1;
-                after = p[2];
-                p += 3;
-            } while (after == ' ');
-            if (after != '\r') return false;
-        }
-    }
-    if (*p != '\n') return false;
-    at = p + 1;
-    set = members;
-    return true;
-}
-
-inline bool take_node(const unsigned char *&at, const Counter &own, Node &node) {
-    const unsigned char *p = at;
-    if (load16(p) != pair('N', ',') || load32(p + 2) << own.shift != node.label) return false;
-    p += 2 + own.length;
-    uint32_t word = load32(p);
-    unsigned check = 0;
-    if ((word & 0xffff00ff) == quad(',', '\0', ',', ',')) {
-        unsigned char letter = static_cast<unsigned char>(word >> 8);
-        if (letter != 'C' && letter != 'R') return false;
-        node.kind = letter == 'C' ? call_node : return_node;
-        p += 4;
-    } else {
-        if ((word & 0xffffff) != (quad(',', 'K', ',', '\0'))) return false;
-        p += 3;
-        if (!take_permission(p, check) || check >= permission_count) return false;
-        node.kind = check_node;
-    }
-    node.check = static_cast<uint8_t>(check);
-    uint64_t set;
-    if (!take_marks(p, node) || !take_grants(p, set) || (set & ~all_permissions) != 0) return false;
-    node.grants = set;
-    at = p;
-    return true;
-}
-
-// The node whose number stands at a place and has so many digits, or none. The digits are multiplied out all at once; whether they were
-// digits at all, and as many as needed, the node's label tells.
-inline Node *take_end(const unsigned char *at, unsigned length) {
-    if (length > 4) return nullptr;
-    uint32_t word = load32(at) << (-8 * length & 31);
-    uint32_t digits = word & 0x0f0f0f0f;
-    uint32_t pairs = digits * (1 + (10 << 8)) >> 8 & 0x00ff00ff;
-    uint32_t value = pairs * (1 + (100 << 16)) >> 16;
-    if (value >= node_count || nodes[value].label != word) return nullptr;
-    return &nodes[value];
-}
-
-// An edge's row whose ends are nodes.
-inline bool take_edge(const unsigned char *&at, Node *&from, Node *&to, bool &is_transfer) {
-    const unsigned char *p = at;
-    if (load16(p) != pair('E', ',')) return false;
-    p += 2;
-    // From here the row has at most 15 bytes. Bits above these stand for commas that are missing.
-    __m128i row = _mm_loadu_si128(reinterpret_cast<const __m128i *>(p));
-    unsigned commas = static_cast<unsigned>(_mm_movemask_epi8(_mm_cmpeq_epi8(row, _mm_set1_epi8(',')))) | 3u << 16;
-    unsigned first = static_cast<unsigned>(__builtin_ctz(commas));
-    commas &= commas - 1;
-    unsigned second = static_cast<unsigned>(__builtin_ctz(commas));
-    from = take_end(p, first);
-    if (!from) return false;
-    to = take_end(p + first + 1, second - first - 1);
-    if (!to) return false;
-    p += second;
-    is_transfer = p[1] == 'T';
-    if (!is_transfer && p[1] != 'C') return false;
-    if (load32(p + 2) != quad(',', ',', '\r', '\n')) return false;
-    at = p + 6;
-    return true;
-}
-
-// ---- Reading: the whole text.
-
-inline bool edge_obeys(const Node &from, const Node &to, bool is_transfer) {
-    if (!is_transfer) return from.kind == call_node;
-    return from.kind != return_node && from.grants == to.grants;
+    if (!read_marks(fields[4], node.privileged, node.entry) || !read_grants(fields[5], node.grants, beyond)) return wrong_row;
+    if (beyond || (node.kind == check_node && check >= permission_count)) return {Row::breaks_rule, at};
+    return {Row::good, at};
 }
 
 inline void link_edge(Edge &edge, Node &from, Node &to, bool is_transfer) {
@@ -396,6 +266,152 @@ inline void link_edge(Edge &edge, Node &from, Node &to, bool is_transfer) {
     edge.next = list;
     list = &edge;
 }
+
+__attribute__((noinline)) Row read_edge_fully(const unsigned char *at, const unsigned char *text_end, Edge &edge) {
+    Field fields[6];
+    if (!read_row(at, text_end, fields) || !fields[0].is('E')) return wrong_row;
+    unsigned from, to;
+    if (!read_number(fields[1], from) || !read_number(fields[2], to)) return wrong_row;
+    bool is_transfer = fields[3].is('T');
+    if (!(is_transfer || fields[3].is('C')) || !fields[4].empty() || !fields[5].empty()) return wrong_row;
+    if (from >= node_count || to >= node_count) return {Row::breaks_rule, at};
+    bool obeys = is_transfer ? nodes[from].kind != return_node && nodes[from].grants == nodes[to].grants : nodes[from].kind == call_node;
+    if (!obeys) return {Row::breaks_rule, at};
+    link_edge(edge, nodes[from], nodes[to], is_transfer);
+    return {Row::good, at};
+}
+
+// ---- Reading: the short path. It stops at a row that it can't take, and has then stored nothing of it that lasts.
+
+inline unsigned digit_of(unsigned char b) { return b - unsigned{'0'}; }
+
+// A check's row has a number below 100 with no needless zeros, and a comma. The place past them, or none.
+inline const unsigned char *take_check(const unsigned char *p, Node &node) {
+    unsigned value = digit_of(p[0]);
+    if (value > 9) return nullptr;
+    unsigned second = digit_of(p[1]);
+    if (second <= 9) {
+        if (value == 0) return nullptr;
+        value = value * 10 + second;
+        ++p;
+    }
+    if (p[1] != ',' || value >= permission_count) return nullptr;
+    node.check = static_cast<uint8_t>(value);
+    return p + 2;
+}
+
+// Strictly ascending grants below 64 and the row's end. The place past them, or none. No number of one digit follows one of two.
+inline const unsigned char *take_grants(const unsigned char *p, uint64_t &set) {
+    set = 0;
+    if (load16(p) == pair('\r', '\n')) return p + 2;
+    uint64_t members = 0;
+    // The least number that may come next.
+    unsigned low = 0;
+    unsigned char after;
+    while ((after = p[1]) == ' ' || after == '\r') {
+        unsigned v = digit_of(p[0]);
+        if (v > 9 || v < low) return nullptr;
+        members |= uint64_t{1} << v;
+        low = v + 1;
+        p += 2;
+        if (after == '\r') goto ended;
+    }
+    if (low < 10) low = 10;
+    do {
+        unsigned second = digit_of(p[1]);
+        unsigned v = digit_of(p[0]) * 10 + second;
+        if (second > 9 || v < low || v >= most_permissions) return nullptr;
+        members |= uint64_t{1} << v;
+        low = v + 1;
+        after = p[2];
+        p += 3;
+    } while (after == ' ');
+    if (after != '\r') return nullptr;
+ended:
+    set = members;
+    return *p == '\n' ? p + 1 : nullptr;
+}
+
+// The row of the node with this number. The place past it, or none.
+inline const unsigned char *take_node(const unsigned char *p, const Counter &own, Node &node) {
+    if (load16(p) != pair('N', ',') || load32(p + 2) << own.shift != own.digits << own.shift) return nullptr;
+    p += 2 + own.length;
+    uint32_t word = load32(p);
+    if (word == quad(',', 'C', ',', ',')) {
+        node.kind = call_node;
+        p += 4;
+    } else if (word == quad(',', 'R', ',', ',')) {
+        node.kind = return_node;
+        p += 4;
+    } else {
+        if (word << 8 != quad('\0', ',', 'K', ',')) return nullptr;
+        node.kind = check_node;
+        p = take_check(p + 3, node);
+        if (!p) return nullptr;
+    }
+    if (*p != ',') {
+        node.privileged = *p == 'P';
+        p += node.privileged;
+        node.entry = *p == 'E';
+        p += node.entry;
+        if (*p != ',') return nullptr;
+    }
+    p = take_grants(p + 1, node.grants);
+    return p && (node.grants & ~all_permissions) == 0 ? p : nullptr;
+}
+
+// For a field of so many bytes, the bytes that a label has of it in the four that end with its last, and the digits among them. None where it
+// is too long or empty, and a label is never 0.
+constexpr uint32_t label_bytes[18] = {0, 0xffff0000, 0xffffff00, 0xffffffff, 0xffffffff};
+constexpr uint32_t digit_bits[18] = {0, 0x0f000000, 0x0f0f0000, 0x0f0f0f00, 0x0f0f0f0f};
+
+// The node whose number is the field of so many bytes before a place, or none. The bytes are multiplied out all at once as if they were
+// digits; whether they are is told by the node's label.
+inline Node *take_end(const unsigned char *past, unsigned length) {
+    uint32_t word = load32(past - 4) & label_bytes[length];
+    uint32_t digits = word & digit_bits[length];
+    uint32_t pairs = digits * (1 + (10 << 8)) >> 8 & 0x00ff00ff;
+    uint32_t value = pairs * (1 + (100 << 16)) >> 16;
+    if (value >= node_count || nodes[value].label != word) return nullptr;
+    return &nodes[value];
+}
+
+// The last six bytes of an edge's row, at the top of a word.
+constexpr uint64_t row_end(char way) {
+    return (pair(',', way) | static_cast<uint64_t>(quad(',', ',', '\r', '\n')) << 16) << 16;
+}
+
+// Reads, judges and links edges from `edge` up to `end`. Where it stopped.
+inline const unsigned char *take_edges(const unsigned char *at, Edge *&edge, Edge *end) {
+    const __m128i comma = _mm_set1_epi8(',');
+    Edge *next = edge;
+    for (; next != end; ++next) {
+        if (load16(at) != pair('E', ',')) break;
+        // From its first number on the row has at most 15 bytes. Bits above these stand for commas that are missing.
+        const unsigned char *p = at + 2;
+        __m128i row = _mm_loadu_si128(reinterpret_cast<const __m128i *>(p));
+        unsigned commas = static_cast<unsigned>(_mm_movemask_epi8(_mm_cmpeq_epi8(row, comma))) | 3u << 16;
+        unsigned first = static_cast<unsigned>(__builtin_ctz(commas));
+        unsigned second = static_cast<unsigned>(__builtin_ctz(commas & (commas - 1)));
+        Node *from = take_end(p + first, first);
+        if (!from) break;
+        Node *to = take_end(p + second, second - first - 1);
+        if (!to) break;
+        uint64_t last = load64(p + second) << 16;
+        if (last == row_end('T')) {
+            if (from->kind == return_node || from->grants != to->grants) break;
+            link_edge(*next, *from, *to, true);
+        } else {
+            if (last != row_end('C') || from->kind != call_node) break;
+            link_edge(*next, *from, *to, false);
+        }
+        at = p + second + 6;
+    }
+    edge = next;
+    return at;
+}
+
+// ---- Reading: the whole text.
 
 // All of standard input, and at most a byte more than a text may have.
 size_t read_input() {
@@ -413,7 +429,7 @@ __attribute__((noinline)) Refusal read_text() {
     size_t size = read_input();
     if (size > most_bytes) return too_long;
     const unsigned char *at = text;
-    const unsigned char *text_end = text + size;
+    const unsigned char *const text_end = text + size;
     if (!read_header(at, text_end)) return {11, 1};
     all_permissions = everything >> (64 - permission_count);
 
@@ -422,27 +438,29 @@ __attribute__((noinline)) Refusal read_text() {
     Counter own;
     for (unsigned i = 0; i < node_count; ++i) {
         Node &node = nodes[i];
-        node.label = own.digits << own.shift;
-        if (__builtin_expect(!take_node(at, own, node), 0)) {
+        node.label = own.digits << own.shift | own.comma;
+        const unsigned char *next = take_node(at, own, node);
+        if (!next) {
             Row row = read_node_fully(at, text_end, i, node);
-            if (row == Row::wrong) return {11, 2 + i};
-            if (row == Row::breaks_rule && bad_node == most_nodes) bad_node = i;
+            if (row.said == Row::wrong) return {11, 2 + i};
+            if (row.said == Row::breaks_rule && bad_node == most_nodes) bad_node = i;
+            next = row.next;
         }
+        at = next;
         has_entry |= node.entry;
         own.next();
     }
 
     unsigned bad_edge = most_edges;
-    for (unsigned e = 0; e < edge_count; ++e) {
-        Node *from, *to;
-        bool is_transfer;
-        Row row = Row::good;
-        if (__builtin_expect(!take_edge(at, from, to, is_transfer), 0)) {
-            row = read_edge_fully(at, text_end, from, to, is_transfer);
-            if (row == Row::wrong) return {11, 2 + node_count + e};
-        }
-        if (__builtin_expect(row == Row::good && edge_obeys(*from, *to, is_transfer), 1)) link_edge(edges[e], *from, *to, is_transfer);
-        else if (bad_edge == most_edges) bad_edge = e;
+    Edge *const end = edges + edge_count;
+    for (Edge *edge = edges;; ++edge) {
+        at = take_edges(at, edge, end);
+        if (edge == end) break;
+        unsigned e = static_cast<unsigned>(edge - edges);
+        Row row = read_edge_fully(at, text_end, *edge);
+        if (row.said == Row::wrong) return {11, 2 + node_count + e};
+        if (row.said == Row::breaks_rule && bad_edge == most_edges) bad_edge = e;
+        at = row.next;
     }
     if (at != text_end) return {11, 2 + node_count + edge_count};
     if (bad_node < most_nodes) return {2, bad_node};
@@ -514,8 +532,9 @@ void solve_may() {
         if (nodes[i].privileged) call_may(waiting, nodes[i].calls(), nodes[i].grants);
     while (!waiting.empty()) {
         const Node *node = waiting.take();
-        call_may(waiting, node->open_calls, node->flow);
-        for (const Edge *edge = node->transfers(); edge; edge = edge->next) deliver_may(waiting, edge->to, node->flow);
+        uint64_t flow = node->flow;
+        call_may(waiting, node->open_calls, flow);
+        for (const Edge *edge = node->transfers(); edge; edge = edge->next) deliver_may(waiting, edge->to, flow);
     }
 }
 

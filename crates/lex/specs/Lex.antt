@@ -3,6 +3,8 @@
 pub mod Fields
 pub mod Numbers
 pub mod Lists
+pub mod Bare
+pub mod Digits
 use Prim.Native.Nat.{ℕ, suc, _+_, _-_, _*_, _^_}
 use mathlib.Core.List.{List, [], _∷_}
 use mathlib.Core.Bool.{Bool, true, false, cond, not, _&&_, _||_}

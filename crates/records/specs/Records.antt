@@ -2,6 +2,7 @@
 -- 75 K, 84 T, 80 P. Numbers have at most four digits.
 pub mod Forms
 pub mod Rows
+pub mod Short
 use Prim.Native.Nat.{ℕ, _+_, _%_, _/_, _^_}
 use mathlib.Core.List.{List}
 use mathlib.Core.Bool.{Bool, true, false, cond, _&&_}

@@ -4,8 +4,11 @@ use lex::Decimal;
 use lex::Listed;
 use lex::Piece;
 ghost use mathlib.Core.Path.{_≡_};
+ghost use Prim.Native.Nat.{_+_, _≤_};
 ghost use lib.ListN.{length, getD};
+ghost use Rattle.truth.specs.Truth.{Says};
 ghost use Rattle.records.specs.Records.{letterOf, emptyOf, says, found, saidBy, formAt, endAt, grantsAt, threeAt, leadAt, headerAt, nodeAt, edgeAt};
+ghost use Rattle.records.specs.Records.Short.{Quick, Shows, digitOf, Digits, Short, letterAt, EndsEmpty, EndsGrants};
 ghost use Rattle.records.specs.Records.Rows.{grantedOf, leadRowOf, nodeRowOf, threeRowOf, edgeRowOf, headerOf};
 
 // What a field is to be.
@@ -185,7 +188,7 @@ enum Granted {
     Wrong,
 }
 
-fn read_grants(s: &[u8], at: usize) -> Granted
+fn slow_grants(s: &[u8], at: usize) -> Granted
     ensures { λ r. ⌜ r ≡ grantedOf (grantsAt (now (s .entry)) at) ⌝ }
 {
     let piece = lex::before_end(s, at);
@@ -211,7 +214,7 @@ enum LeadRow {
     Wrong,
 }
 
-fn read_lead(s: &[u8], at: usize, i: usize) -> LeadRow
+fn slow_lead(s: &[u8], at: usize, i: usize) -> LeadRow
     ensures { λ r. ⌜ r ≡ leadRowOf (leadAt (now (s .entry)) at i) ⌝ }
 {
     let Found::At { value: _, next: a } = read_field(s, at, Form::Tag(78)) else {
@@ -240,6 +243,252 @@ fn read_lead(s: &[u8], at: usize, i: usize) -> LeadRow
     LeadRow::At {
         lead: Lead { kind, check, marks },
         next,
+    }
+}
+
+// Most fields are short and have no quotes. The functions below know such a field by its bytes, and answer eight times what it says and how
+// many bytes it takes with its comma; or 0 of any other field, which is left to the functions above. They ask for more bytes than they look at.
+
+fn has_room(s: &[u8], at: usize, count: usize) -> bool
+    ensures { λ r. ⌜ Says (at + count ≤ length (now (s .entry))) r ⌝ }
+{
+    if s.len() < count {
+        return false;
+    }
+    at <= s.len() - count
+}
+
+// The digit that a byte is, or a number above 9.
+fn digit(b: u8) -> usize
+    ensures { λ r. ⌜ r ≡ digitOf b ⌝ }
+{
+    if b < 48 {
+        return 10;
+    }
+    (b - 48) as usize
+}
+
+// A number of one to four digits, whatever follows them: eight times it and how many they are.
+fn short_digits(s: &[u8], at: usize) -> usize
+    requires { ⌜ at + 8 ≤ length (now s) ⌝ }
+    ensures { λ r. ⌜ Digits (now (s .entry)) at r ⌝ }
+{
+    let a = digit(s[at]);
+    if 9 < a {
+        return 0;
+    }
+    let b = digit(s[at + 1]);
+    if 9 < b {
+        return a * 8 + 1;
+    }
+    if a == 0 {
+        return 0;
+    }
+    let c = digit(s[at + 2]);
+    if 9 < c {
+        return (a * 10 + b) * 8 + 2;
+    }
+    let d = digit(s[at + 3]);
+    if 9 < d {
+        return (a * 100 + b * 10 + c) * 8 + 3;
+    }
+    (a * 1000 + b * 100 + c * 10 + d) * 8 + 4
+}
+
+fn short_number(s: &[u8], at: usize) -> usize
+    requires { ⌜ at + 8 ≤ length (now s) ⌝ }
+    ensures { λ r. ⌜ Short Form.Number (now (s .entry)) at r ⌝ }
+{
+    let x = short_digits(s, at);
+    if x == 0 {
+        return 0;
+    }
+    if s[at + x % 8] == 44 {
+        return x + 1;
+    }
+    0
+}
+
+// The byte at a position where a comma follows it; else 0.
+fn short_letter(s: &[u8], at: usize) -> u8
+    requires { ⌜ at + 8 ≤ length (now s) ⌝ }
+    ensures { λ r. ⌜ r ≡ letterAt (now (s .entry)) at ⌝ }
+{
+    if s[at + 1] == 44 {
+        return s[at];
+    }
+    0
+}
+
+fn short_kind(s: &[u8], at: usize) -> usize
+    requires { ⌜ at + 8 ≤ length (now s) ⌝ }
+    ensures { λ r. ⌜ Short Form.Kind (now (s .entry)) at r ⌝ }
+{
+    let b = short_letter(s, at);
+    if b == 67 {
+        return 2;
+    }
+    if b == 82 {
+        return 10;
+    }
+    if b == 75 {
+        return 18;
+    }
+    0
+}
+
+fn short_way(s: &[u8], at: usize) -> usize
+    requires { ⌜ at + 8 ≤ length (now s) ⌝ }
+    ensures { λ r. ⌜ Short Form.Way (now (s .entry)) at r ⌝ }
+{
+    let b = short_letter(s, at);
+    if b == 67 {
+        return 2;
+    }
+    if b == 84 {
+        return 10;
+    }
+    0
+}
+
+fn short_check(s: &[u8], at: usize, kind: usize) -> usize
+    requires { ⌜ at + 8 ≤ length (now s) ⌝ }
+    ensures { λ r. ⌜ Short (Form.Check kind) (now (s .entry)) at r ⌝ }
+{
+    if kind == 2 {
+        return short_number(s, at);
+    }
+    if s[at] == 44 {
+        return 1;
+    }
+    0
+}
+
+fn short_marks(s: &[u8], at: usize) -> usize
+    requires { ⌜ at + 8 ≤ length (now s) ⌝ }
+    ensures { λ r. ⌜ Short Form.Marks (now (s .entry)) at r ⌝ }
+{
+    if s[at] == 44 {
+        return 1;
+    }
+    let b = short_letter(s, at);
+    if b == 80 {
+        return 10;
+    }
+    if b == 69 {
+        return 18;
+    }
+    if s[at] == 80 {
+        if s[at + 1] == 69 {
+            if s[at + 2] == 44 {
+                return 27;
+            }
+        }
+    }
+    0
+}
+
+// The front of a node row whose fields are all short. Wrong says nothing of the row.
+fn quick_lead(s: &[u8], at: usize, i: usize) -> LeadRow
+    ensures { λ r. ⌜ Quick LeadRow.Wrong (leadRowOf (leadAt (now (s .entry)) at i)) r ⌝ }
+{
+    if !has_room(s, at, 40) {
+        return LeadRow::Wrong;
+    }
+    if short_letter(s, at) != 78 {
+        return LeadRow::Wrong;
+    }
+    let own = short_number(s, at + 2);
+    if own == 0 {
+        return LeadRow::Wrong;
+    }
+    if own / 8 != i {
+        return LeadRow::Wrong;
+    }
+    let a = at + 2 + own % 8;
+    let kind = short_kind(s, a);
+    if kind == 0 {
+        return LeadRow::Wrong;
+    }
+    let b = a + kind % 8;
+    let check = short_check(s, b, kind / 8);
+    if check == 0 {
+        return LeadRow::Wrong;
+    }
+    let c = b + check % 8;
+    let marks = short_marks(s, c);
+    if marks == 0 {
+        return LeadRow::Wrong;
+    }
+    LeadRow::At {
+        lead: Lead {
+            kind: kind / 8,
+            check: check / 8,
+            marks: marks / 8,
+        },
+        next: c + marks % 8,
+    }
+}
+
+fn read_lead(s: &[u8], at: usize, i: usize) -> LeadRow
+    ensures { λ r. ⌜ r ≡ leadRowOf (leadAt (now (s .entry)) at i) ⌝ }
+{
+    match quick_lead(s, at, i) {
+        LeadRow::At { lead, next } => LeadRow::At { lead, next },
+        LeadRow::Wrong => slow_lead(s, at, i),
+    }
+}
+
+// Grants of these bits, where the row's end follows.
+fn end_grants(s: &[u8], at: usize, bits: u64) -> Granted
+    requires { ⌜ at + 2 ≤ length (now s) ⌝ }
+    ensures { λ r. ⌜ EndsGrants (now (s .entry)) at bits r ⌝ }
+{
+    if s[at] == 13 {
+        if s[at + 1] == 10 {
+            return Granted::Held { bits, next: at + 2 };
+        }
+    }
+    Granted::Wrong
+}
+
+// Grants that end a row, by their bytes, where each is below 64. Wrong says nothing of them.
+fn quick_grants(s: &[u8], at: usize) -> Granted
+    ensures { λ r. ⌜ Quick Granted.Wrong (grantedOf (grantsAt (now (s .entry)) at)) r ⌝ }
+{
+    let mut bits: u64 = 0;
+    let mut low: usize = 0;
+    let mut i = at;
+    while has_room(s, i, 16) {
+        let x = short_digits(s, i);
+        if x == 0 {
+            return Granted::Wrong;
+        }
+        let v = x / 8;
+        if v < low {
+            return Granted::Wrong;
+        }
+        if 63 < v {
+            return Granted::Wrong;
+        }
+        bits = bits | (1u64 << v);
+        low = v + 1;
+        let e = i + x % 8;
+        if s[e] != 32 {
+            return end_grants(s, e, bits);
+        }
+        i = e + 1;
+    }
+    Granted::Wrong
+}
+
+fn read_grants(s: &[u8], at: usize) -> Granted
+    ensures { λ r. ⌜ r ≡ grantedOf (grantsAt (now (s .entry)) at) ⌝ }
+{
+    match quick_grants(s, at) {
+        Granted::Held { bits, next } => Granted::Held { bits, next },
+        Granted::Beyond { next } => Granted::Beyond { next },
+        Granted::Wrong => slow_grants(s, at),
     }
 }
 
@@ -342,7 +591,67 @@ pub enum EdgeRow {
     Wrong,
 }
 
+// An edge row whose fields are all short. Wrong says nothing of the row.
+fn quick_edge(s: &[u8], at: usize) -> EdgeRow
+    ensures { λ r. ⌜ Quick EdgeRow.Wrong (edgeRowOf (edgeAt (now (s .entry)) at)) r ⌝ }
+{
+    if !has_room(s, at, 40) {
+        return EdgeRow::Wrong;
+    }
+    if short_letter(s, at) != 69 {
+        return EdgeRow::Wrong;
+    }
+    let from = short_number(s, at + 2);
+    if from == 0 {
+        return EdgeRow::Wrong;
+    }
+    let a = at + 2 + from % 8;
+    let to = short_number(s, a);
+    if to == 0 {
+        return EdgeRow::Wrong;
+    }
+    let b = a + to % 8;
+    let way = short_way(s, b);
+    if way == 0 {
+        return EdgeRow::Wrong;
+    }
+    let c = b + way % 8;
+    if !ends_empty(s, c) {
+        return EdgeRow::Wrong;
+    }
+    EdgeRow::At {
+        edge: Edge {
+            from: (from / 8) as u16,
+            to: (to / 8) as u16,
+            way: (way / 8) as u8,
+        },
+        next: c + 3,
+    }
+}
+
+// Whether two empty fields end a row.
+fn ends_empty(s: &[u8], at: usize) -> bool
+    requires { ⌜ at + 8 ≤ length (now s) ⌝ }
+    ensures { λ r. ⌜ Shows (EndsEmpty (now (s .entry)) at) r ⌝ }
+{
+    if s[at] == 44 {
+        if s[at + 1] == 13 {
+            return s[at + 2] == 10;
+        }
+    }
+    false
+}
+
 pub fn read_edge(s: &[u8], at: usize) -> EdgeRow
+    ensures { λ r. ⌜ r ≡ edgeRowOf (edgeAt (now (s .entry)) at) ⌝ }
+{
+    match quick_edge(s, at) {
+        EdgeRow::At { edge, next } => EdgeRow::At { edge, next },
+        EdgeRow::Wrong => slow_edge(s, at),
+    }
+}
+
+fn slow_edge(s: &[u8], at: usize) -> EdgeRow
     ensures { λ r. ⌜ r ≡ edgeRowOf (edgeAt (now (s .entry)) at) ⌝ }
 {
     let ThreeRow::At { three, next } = read_three(s, at, 69, Form::Way) else {

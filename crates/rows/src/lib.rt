@@ -6,6 +6,7 @@ ghost use mathlib.Core.List.{[], _∷_};
 ghost use Prim.Native.Nat.{_+_, _≤_, _<_};
 ghost use lib.ListN.{length};
 ghost use Rattle.truth.specs.Truth.{Says};
+ghost use Rattle.io.specs.Digits.{glyph};
 ghost use Rattle.rows.specs.Result.{decimal, membersFrom, afterFirst, spaced, setBytes, verdictBytes, rowBytes, rowsFrom, resultBytes, refusalRow, refusalBytes, Long, Writes, WritesResult};
 ghost use Rattle.rows.specs.Result.Pieces.{Puts};
 
@@ -40,13 +41,56 @@ fn put_all(out: &mut [u8], at: usize, bytes: &[u8]) -> usize
     next
 }
 
-fn put_number(out: &mut [u8], at: usize, n: usize) -> usize
+fn put_digit(out: &mut [u8], at: usize, d: usize) -> usize
+    requires { ⌜ (at < 4294967296) × (d < 10) ⌝ }
+    ensures { λ r. ⌜ Puts (glyph d ∷ []) (now (out .entry)) at r (now (out .exit)) ⌝ }
+{
+    put(out, at, (48 + d) as u8)
+}
+
+// A number of one or two digits.
+fn put_short(out: &mut [u8], at: usize, n: usize) -> usize
+    requires { ⌜ (at ≤ 4294967000) × (n < 100) ⌝ }
+    ensures { λ r. ⌜ Puts (decimal n) (now (out .entry)) at r (now (out .exit)) ⌝ }
+{
+    if n < 10 {
+        return put_digit(out, at, n);
+    }
+    let next = put_digit(out, at, n / 10);
+    put_digit(out, next, n % 10)
+}
+
+// A number of three or four digits.
+fn put_middle(out: &mut [u8], at: usize, n: usize) -> usize
+    requires { ⌜ (at ≤ 4294967000) × (100 ≤ n) × (n < 10000) ⌝ }
+    ensures { λ r. ⌜ Puts (decimal n) (now (out .entry)) at r (now (out .exit)) ⌝ }
+{
+    let a = put_short(out, at, n / 100);
+    let b = put_digit(out, a, n / 10 % 10);
+    put_digit(out, b, n % 10)
+}
+
+// Any number, by the kit.
+fn put_long(out: &mut [u8], at: usize, n: usize) -> usize
     requires { ⌜ at ≤ 4294967000 ⌝ }
     ensures { λ r. ⌜ Puts (decimal n) (now (out .entry)) at r (now (out .exit)) ⌝ }
 {
     let mut digits = [0u8; 20];
     let count = io::decimal(n as u64, &mut digits);
     put_all(out, at, &digits[..count])
+}
+
+fn put_number(out: &mut [u8], at: usize, n: usize) -> usize
+    requires { ⌜ at ≤ 4294967000 ⌝ }
+    ensures { λ r. ⌜ Puts (decimal n) (now (out .entry)) at r (now (out .exit)) ⌝ }
+{
+    if n < 100 {
+        return put_short(out, at, n);
+    }
+    if n < 10000 {
+        return put_middle(out, at, n);
+    }
+    put_long(out, at, n)
 }
 
 // Notes p where it is a member.
@@ -69,8 +113,10 @@ fn list_members(list: &mut [u8], set: u64) -> usize
 {
     let mut count: usize = 0;
     let mut p: usize = 0;
-    while p < 64 {
+    let mut rest = set;
+    while rest != 0 {
         count = list_one(list, count, p, set);
+        rest = rest / 2;
         p += 1;
     }
     count
@@ -220,7 +266,8 @@ fn count_result(n: usize, kinds: &[u8], checks: &[u16], denied: &[u64], granted:
     put_result(&mut nowhere, n, kinds, checks, denied, granted)
 }
 
-// Writes the result's rows at the start of a buffer.
+// Writes the result's rows at the start of a buffer. They are counted first where the buffer may be too short for them: no row takes more than
+// 413 bytes.
 pub fn write_result(
     out: &mut [u8],
     n: usize,
@@ -233,6 +280,10 @@ pub fn write_result(
 {
     if !is_long(n, kinds.len(), checks.len(), denied.len(), granted.len()) {
         return Written::Refused(Refusal::Shape);
+    }
+    if n * 413 + 29 <= out.len() {
+        let count = put_result(out, n, kinds, checks, denied, granted);
+        return Written::Bytes(count);
     }
     let count = count_result(n, kinds, checks, denied, granted);
     if out.len() < count {

@@ -26,13 +26,18 @@ fn refuse(why: Refusal) {
     }
 }
 
-// A row takes at most 372 bytes: a number below 1,024, two sets of 64 permissions and a verdict.
-fn write_rows(n: usize, kinds: &[u8], checks: &[u16], denied: &[u64], granted: &[u64])
+fn write_rows(
+    out: &mut [u8],
+    n: usize,
+    kinds: &[u8],
+    checks: &[u16],
+    denied: &[u64],
+    granted: &[u64],
+)
     requires { ⌜ (n ≤ length (now kinds)) × (n ≤ length (now checks)) × (n ≤ length (now denied)) × (n ≤ length (now granted)) ⌝ }
 {
-    let mut out = [0u8; 381000];
     let written = rows::write_result(
-        &mut out,
+        out,
         n,
         &kinds[0..n],
         &checks[0..n],
@@ -40,9 +45,24 @@ fn write_rows(n: usize, kinds: &[u8], checks: &[u16], denied: &[u64], granted: &
         &granted[0..n],
     );
     match written {
-        Written::Bytes(count) => write_first(&out, count),
+        Written::Bytes(count) => write_first(out, count),
         Written::Refused(why) => refuse(why),
     }
+}
+
+// The rows of at most 158 nodes. A row takes at most 413 bytes, the header 29.
+fn write_few(n: usize, kinds: &[u8], checks: &[u16], denied: &[u64], granted: &[u64])
+    requires { ⌜ (n ≤ length (now kinds)) × (n ≤ length (now checks)) × (n ≤ length (now denied)) × (n ≤ length (now granted)) ⌝ }
+{
+    let mut out = [0u8; 65536];
+    write_rows(&mut out, n, kinds, checks, denied, granted);
+}
+
+fn write_many(n: usize, kinds: &[u8], checks: &[u16], denied: &[u64], granted: &[u64])
+    requires { ⌜ (n ≤ length (now kinds)) × (n ≤ length (now checks)) × (n ≤ length (now denied)) × (n ≤ length (now granted)) ⌝ }
+{
+    let mut out = [0u8; 423000];
+    write_rows(&mut out, n, kinds, checks, denied, granted);
 }
 
 // Solves the graph that the first n and m places of the slices hold.
@@ -119,7 +139,13 @@ fn solve_and_write(
         &mut granted,
     );
     match judged {
-        Judged::Accepted => write_rows(nodes, kinds, checks, &denied, &granted),
+        Judged::Accepted => {
+            if nodes <= 158 {
+                write_few(nodes, kinds, checks, &denied, &granted);
+            } else {
+                write_many(nodes, kinds, checks, &denied, &granted);
+            }
+        }
         Judged::Refused(why) => refuse(why),
     }
 }

@@ -1,4 +1,4 @@
-use mathlib.Core.Path.{sym, _∙_, ap}
+use mathlib.Core.Path.{sym, ap}
 use Rattle.records.specs.Records.{found}
 use Rattle.lex.specs.declared.Decimal.{Decimal}
 use borrow.Author.Needs.{needs}

@@ -1,4 +1,4 @@
-use mathlib.Core.Path.{sym, _∙_, ap}
+use mathlib.Core.Path.{sym, _∙_}
 use Rattle.records.specs.Records.Forms.{check-there, check-none, empty-says}
 use borrow.Author.Needs.{needs}
 use Rattle.records.proofs.read_check.Statement.{statement}

@@ -1,7 +1,6 @@
-use mathlib.Core.Path.{sym, _∙_, ap}
+use mathlib.Core.Path.{sym, _∙_}
 use borrow.Author.Tests.{eq-eqb, ne-eqb}
 use Rattle.records.specs.Records.Forms.{empty-says}
-use borrow.Author.Needs.{needs}
 use Rattle.records.proofs.read_empty.Statement.{statement}
 use Rattle.records.proofs.read_empty.Tie as tie
 

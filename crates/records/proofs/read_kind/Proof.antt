@@ -1,4 +1,4 @@
-use mathlib.Core.Path.{sym, _∙_, ap}
+use mathlib.Core.Path.{sym}
 use Rattle.records.specs.Records.Forms.{kind-call, kind-return, kind-check, kind-none}
 use borrow.Author.Needs.{needs}
 use Rattle.records.proofs.read_kind.Statement.{statement}

@@ -1,4 +1,4 @@
-use mathlib.Core.Path.{sym, _∙_, ap}
+use mathlib.Core.Path.{sym}
 use Rattle.records.specs.Records.Forms.{marks-empty, marks-p, marks-e, marks-long, marks-first, marks-second, marks-both}
 use borrow.Author.Needs.{needs}
 use Rattle.records.proofs.read_marks.Statement.{statement}

@@ -1,4 +1,4 @@
-use mathlib.Core.Path.{sym, _∙_, ap}
+use mathlib.Core.Path.{sym}
 use Rattle.records.specs.Records.Forms.{way-call, way-transfer, way-none}
 use borrow.Author.Needs.{needs}
 use Rattle.records.proofs.read_way.Statement.{statement}

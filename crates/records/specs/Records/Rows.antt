@@ -83,6 +83,10 @@ module _ (s : List ℕ) (at : ℕ) where
   unfolding grantsAt
   grants-none p = ap (grantsBy s) p
 
+  pub grants-all : {b e n x : ℕ} → lastAt s at ≡ Part b e n → membersOf 4 (partOf s b e) ≡ members x → grantsAt s at ≡ got x n
+  unfolding grantsAt
+  grants-all {b} {e} {n} p q = ap (grantsBy s) p ∙ ap (λ (m : Members). onMembers m n) q
+
   pub grants-part : {b e n : ℕ} → lastAt s at ≡ Part b e n → grantedOf (grantsAt s at) ≡ grantedBy (heldOf (membersOf 4 (partOf s b e))) n
   unfolding grantsAt
   grants-part {b} {e} {n} p = ap (λ (x : Piece). grantedOf (grantsBy s x)) p ∙ members-granted (membersOf 4 (partOf s b e)) n

@@ -1,7 +1,6 @@
 use native.Mathlib.Omega.{arith}
 use Rattle.truth.specs.Truth.{fails}
 use Rattle.truth.specs.Truth.Tests.{says-same, eq?}
-use borrow.Author.Needs.{needs}
 use Rattle.rows.proofs.is_long.Statement.{statement}
 use Rattle.rows.proofs.is_long.Tie as tie
 

@@ -1,41 +1,42 @@
-use Prim.Native.Nat.{_≤_, _-_, _+_}
-use mathlib.Core.Path.{_∙_, sym, subst}
+use Prim.Native.Nat.{_-_}
+use mathlib.Core.Path.{_∙_}
 use native.Mathlib.Omega.{arith}
 use lib.ListN.{length}
-use Rattle.rows.specs.Result.{membersFrom}
-use Rattle.rows.specs.Result.Pieces.{Listing, listing-start, listing-more, listing-end, puts-long}
+use Rattle.rows.specs.Result.Pieces.{Halving, halving-start, halving-low, halving-more, halving-end, puts-long}
 use borrow.Author.Needs.{needs}
 use Rattle.rows.proofs.list_members.Statement.{statement}
 use Rattle.rows.proofs.list_members.Tie as tie
 
 abbrev Inv-loop : tie.InvT-loop
-Inv-loop list₀ set count₀ p₀ list count p = Listing set list₀ count p list
+Inv-loop list₀ set count₀ p₀ rest₀ list count p rest = Halving set list₀ count p rest list
 
 abbrev μ-loop : tie.MeasureT-loop
-μ-loop list₀ set count₀ p₀ list count p = 64 - p
+μ-loop list₀ set count₀ p₀ rest₀ list count p rest = 64 - p
 
 loop-holds : tie.Need-loop-holds Inv-loop μ-loop
-loop-holds c = listing-start
+loop-holds c = halving-start (search needs)
 
 list-one-requires : tie.Need-list-one-requires Inv-loop μ-loop
 list-one-requires c κs =
     let v = c .before .before .loop .inv in
-    (omega (arith, v .few, puts-long (v .so-far), c .before .before .before .before .pre), omega arith, puts-long (v .so-far) ∙ c .before .before .before .before .pre)
+    let low = halving-low v (c .before .loop-test .taken) in
+    let long = puts-long (v .listing .so-far) ∙ c .before .before .before .before .pre in
+    (omega (arith, v .listing .few, long, low), low, long)
 
 add-p : tie.Need-add-p Inv-loop μ-loop
-add-p c = search needs
+add-p c = omega (arith, halving-low (c .before .before .before .before .before .loop .inv) (c .before .before .before .before .loop-test .taken))
 
 loop-less : tie.Need-loop-less Inv-loop μ-loop
-loop-less c = search needs
+loop-less c = omega (arith, halving-low (c .before .before .before .before .before .loop .inv) (c .before .before .before .before .loop-test .taken))
 
 loop-again : tie.Need-loop-again Inv-loop μ-loop
-loop-again c = listing-more (c .before .before .before .before .before .loop .inv) (c .before .before .before .before .loop-test .taken) (c .before .before .list-one .ensures)
+loop-again c = halving-more (c .before .before .before .before .before .loop .inv) (c .before .before .before .before .loop-test .taken) (c .before .before .list-one .ensures)
 
 same-length : tie.Need-same-length Inv-loop μ-loop
-same-length c = puts-long (c .before .loop .inv .so-far)
+same-length c = puts-long (c .before .loop .inv .listing .so-far)
 
 returns : tie.Need-returns Inv-loop μ-loop
-returns c = listing-end (c .before .loop .inv) (c .loop-test .left)
+returns c = halving-end (c .before .loop .inv) (c .loop-test .left)
 
 pub list-members-spec : {M : Type 1} → statement M
 list-members-spec =

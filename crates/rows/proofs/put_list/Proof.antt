@@ -1,8 +1,7 @@
-use lib.ListN.{getD}
-use mathlib.Core.Path.{sym, ap, _∙_}
+use lib.ListN.{getD, length, drop, length-drop}
+use mathlib.Core.Path.{sym, ap}
 use Prim.Native.Nat.{_-_}
 use native.Mathlib.Omega.{arith}
-use lib.ListN.{length, drop, length-drop}
 use lib.Seq.{take-all, length-take-le}
 use Rattle.rows.specs.Result.{afterFirst}
 use Rattle.rows.specs.Result.Pieces.{puts-as, puts-none, puts-then, spaced-none, spaced-by, decimal-short}

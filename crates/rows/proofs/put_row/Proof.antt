@@ -1,4 +1,3 @@
-use mathlib.Core.Path.{_∙_}
 use native.Mathlib.Omega.{arith}
 use Rattle.rows.specs.Result.Pieces.{puts-then, decimal-short, set-short, verdict-short}
 use borrow.Author.Needs.{needs}

@@ -1,5 +1,4 @@
-use mathlib.Core.Path.{sym, ap, _∙_}
-use native.Mathlib.Omega.{arith}
+use mathlib.Core.Path.{ap}
 use Rattle.rows.specs.Result.{spaced}
 use Rattle.rows.specs.Result.Pieces.{puts-as, listed}
 use borrow.Author.Needs.{needs}

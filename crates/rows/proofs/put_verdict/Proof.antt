@@ -1,5 +1,4 @@
 use mathlib.Core.Path.{sym, ap, ap₂, _∙_}
-use mathlib.Core.Bool.{Bool}
 use Rattle.graph.specs.Graph.{verdictOf}
 use Rattle.rows.specs.Result.{decimal}
 use Rattle.rows.specs.Result.Pieces.{puts-as, puts-none, verdict-none, verdict-some}

@@ -1,6 +1,5 @@
-use mathlib.Core.Path.{sym, ap, _∙_, subst}
+use mathlib.Core.Path.{ap, _∙_}
 use lib.ListN.{length}
-use Rattle.rows.specs.Result.{Writes}
 use Rattle.rows.specs.Result.Pieces.{puts-as}
 use Rattle.rows.specs.Result.Calls.{writes-none, writes-all, refusal-is}
 use borrow.Author.Needs.{needs}

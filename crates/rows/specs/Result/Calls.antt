@@ -21,6 +21,10 @@ module _ {bytes before : List ℕ} {count : ℕ} (e : count ≡ length bytes) wh
   writes-all {r} {after} h p =
       subst (λ (l : List ℕ). Writes bytes before (Bytes count) l) (sym (p .content)) (subst (λ (n : ℕ). Writes bytes before (Bytes n) (sets before 0 bytes)) (sym e) (written (omega (arith, e, h))))
 
+-- bytes that were written to a buffer with room for more
+pub writes-close : {bytes before after : List ℕ} {r most : ℕ} → Puts bytes before 0 r after → most ≤ length before → length bytes ≤ most → Writes bytes before (Bytes r) after
+writes-close p h k = let e = p .answer in writes-all (omega (arith, e)) (omega (arith, e, h, k)) p
+
 pub refusal-is : {number place : ℕ} (r : Refusal) → number ≡ numbered r .number → place ≡ numbered r .place → refusalRow number place ≡ refusalBytes r
 refusal-is {number} {place} r a b = ap (λ n. refusalRow n place) a ∙ ap (refusalRow (numbered r .number)) b
 

@@ -9,13 +9,14 @@ use native.Mathlib.Omega.{arith}
 use lib.ListN.{length, getD, take, drop, set, length-append}
 use lib.Seq.{sets, length-sets, set-out, take-all, take-suc, length-take-le}
 use lib.Dec.{lit<, ltb, eqb}
-use borrow.Author.Tests.{ltb-true, ltb-false, eq-eqb, ne-eqb}
+use borrow.Author.Tests.{lt-ltb, le-ltb, ltb-true, ltb-false, eq-eqb, ne-eqb}
 use Rattle.truth.specs.Truth.Bools.{by-split}
 use Rattle.truth.specs.Truth.Kit.{take-sets}
 use Rattle.io.specs.Digits.{glyph, digits, Fewest}
 use Rattle.graph.specs.Graph.{verdictOf}
 use Rattle.sets.specs.Sets.{has}
-use Rattle.rows.specs.Result.{decimalBy, decimal, membersFrom, afterFirst, spaced, setBytes, verdictBytes, rowBytes, rowsFrom}
+use Rattle.sets.specs.Sets.Members.{has-past, has-suc}
+use Rattle.rows.specs.Result.{decimalBy, decimal, membersFrom, afterFirst, spaced, setBytes, verdictBytes, rowBytes, headerBytes, rowsFrom, resultBytes}
 
 -- Bytes were written from a place on, as far as the buffer goes, and the place after them is the answer.
 pub record Puts (bytes before : List ℕ) (at r : ℕ) (after : List ℕ) : Type 0 where
@@ -83,6 +84,34 @@ module _ (most n : ℕ) where
   more-digits : ltb n 10 ≡ false → decimalBy (suc most) n ≡ decimalBy most (n / 10) ++ (glyph (n % 10) ∷ [])
   unfolding decimalBy
   more-digits t = simp t
+
+pub one-glyph : {d : ℕ} → d < 10 → 48 + d ≡ glyph d
+one-glyph {d} h = simp (lt-ltb d 10 h)
+
+pub decimal-1 : {n : ℕ} → n < 10 → decimal n ≡ glyph n ∷ []
+decimal-1 {n} h = one-digit 19 n (lt-ltb n 10 h)
+
+two-digits : (most n : ℕ) → 10 ≤ n → n < 100 → decimalBy (suc (suc most)) n ≡ glyph (n / 10) ∷ glyph (n % 10) ∷ []
+two-digits most n l h =
+    more-digits (suc most) n (le-ltb n 10 l)
+    ∙ ap (λ (x : List ℕ). x ++ (glyph (n % 10) ∷ [])) (one-digit most (n / 10) (lt-ltb (n / 10) 10 (omega arith)))
+
+pub decimal-2 : {n : ℕ} → 10 ≤ n → n < 100 → decimal n ≡ glyph (n / 10) ∷ glyph (n % 10) ∷ []
+decimal-2 {n} = two-digits 18 n
+
+fewer : (n : ℕ) → n < 100 → decimalBy 18 n ≡ decimal n
+fewer n h =
+    by-split (ltb n 10)
+    (λ t. one-digit 17 n t ∙ sym (one-digit 19 n t))
+    (λ t. two-digits 16 n (ltb-false n 10 t) h ∙ sym (two-digits 18 n (ltb-false n 10 t) h))
+
+pub decimal-4 : {n : ℕ} → 100 ≤ n → n < 10000 → decimal n ≡ decimal (n / 100) ++ (glyph (n / 10 % 10) ∷ []) ++ (glyph (n % 10) ∷ [])
+decimal-4 {n} l h =
+    let e : n / 10 / 10 ≡ n / 100 = omega arith in
+    more-digits 19 n (le-ltb n 10 (omega arith))
+    ∙ ap (λ (x : List ℕ). x ++ (glyph (n % 10) ∷ []))
+    (more-digits 18 (n / 10) (le-ltb (n / 10) 10 (omega arith))
+    ∙ ap (λ (x : List ℕ). x ++ (glyph (n / 10 % 10) ∷ [])) (ap (decimalBy 18) e ∙ fewer (n / 100) (omega arith)))
 
 -- a number below ten has one digit, and one above has one digit more than its tenth
 fewest-one : (n k : ℕ) → Fewest 10 1 n (suc k) → n < 10 → k ≡ 0
@@ -209,6 +238,59 @@ listing-more {set} {count} {next} {p} {l} {m} {n} s h q =
 pub listing-end : {set count p : ℕ} {l m : List ℕ} → Listing set l count p m → 64 ≤ p → Puts (membersFrom set 0 64) l 0 count m
 listing-end {set} {count} {p} {l} {m} s h = let e : p ≡ 64 = omega (arith, s .high) in rw e at (s .so-far)
 
+-- The same, and what is left of the set after its lowest p permissions.
+pub record Halving (set : ℕ) (before : List ℕ) (count p rest : ℕ) (after : List ℕ) : Type 0 where
+  pub listing : Listing set before count p after
+  pub same : (q : ℕ) → has set (p + q) ≡ has rest q
+  pub small : rest < 2 ^ (64 - p)
+
+pub halving-start : {set : ℕ} {l : List ℕ} → set < 2 ^ 64 → Halving set l 0 0 set l
+halving-start {set} h = record { listing = listing-start; same = λ q. ap (has set) (omega arith); small = h }
+
+pub halving-low : {set count p rest : ℕ} {l m : List ℕ} → Halving set l count p rest m → (rest ≡ 0 → ⊥) → p < 64
+halving-low {p = p} {rest = rest} s h =
+    by-split (ltb p 64) (λ t. ltb-true p 64 t)
+    (λ t. let e : 64 - p ≡ 0 = omega (arith, ltb-false p 64 t) in absurd (h (omega (arith, rw e at (s .small)))))
+
+pub halving-more : {set count next p rest : ℕ} {l m n : List ℕ} → Halving set l count p rest m → (rest ≡ 0 → ⊥) → Puts (membersFrom set p 1) m count next n → Halving set l next (p + 1) (rest / 2) n
+halving-more {set} {count} {next} {p} {rest} s h q =
+    let low = halving-low s h in
+    let e : 64 - p ≡ suc (64 - (p + 1)) = omega arith in
+    let d : rest < 2 * 2 ^ (64 - (p + 1)) = omega (arith, rw (e, pow-suc) at (s .small)) in
+    record {
+      listing = listing-more (s .listing) low q;
+      same = λ i. ap (has set) (omega arith) ∙ s .same (suc i) ∙ has-suc rest i;
+      small = omega (arith, d);
+    }
+
+past-members : (set p count : ℕ) → ((q : ℕ) → has set (p + q) ≡ false) → membersFrom set p count ≡ []
+unfolding membersFrom
+past-members set p zero h = refl
+past-members set p (suc count) h = simp (ap (has set) (sym (add-zero p)) ∙ h 0) (past-members set (p + 1) count (λ q. ap (has set) (omega arith) ∙ h (suc q)))
+
+members-split : (set p a b : ℕ) → membersFrom set p a ++ membersFrom set (p + a) b ≡ membersFrom set p (a + b)
+unfolding membersFrom
+members-split set p zero b =
+    let z : b ≡ 0 + b = omega arith in
+    ap (λ (i : ℕ). membersFrom set i b) (add-zero p) ∙ ap (membersFrom set p) z
+members-split set p (suc a) b =
+    let e : p + suc a ≡ p + 1 + a = omega arith in
+    let z : suc a + b ≡ suc (a + b) = omega arith in
+    let r : membersFrom set (p + 1) a ++ membersFrom set (p + suc a) b ≡ membersFrom set (p + 1) (a + b) =
+    ap (λ (i : ℕ). membersFrom set (p + 1) a ++ membersFrom set i b) e ∙ members-split set (p + 1) a b in
+    by-split (has set p)
+    (λ t. rw z (simp t (ap (λ (l : List ℕ). p ∷ l) r)))
+    (λ t. rw z (simp t r))
+
+pub halving-end : {set count p rest : ℕ} {l m : List ℕ} → Halving set l count p rest m → rest ≡ 0 → Puts (membersFrom set 0 64) l 0 count m
+halving-end {set} {count} {p} {rest} {l} {m} s e =
+    let n : membersFrom set (0 + p) (64 - p) ≡ [] =
+    past-members set (0 + p) (64 - p) (λ q. ap (has set) (omega arith) ∙ s .same q ∙ ap (λ (x : ℕ). has x q) e ∙ has-past 0 0 q (lit< tt) (omega arith)) in
+    let z : p + (64 - p) ≡ 64 = omega (arith, s .listing .high) in
+    subst (λ (x : List ℕ). Puts x l 0 count m)
+    (sym (append-nil (membersFrom set 0 p)) ∙ ap (λ (x : List ℕ). membersFrom set 0 p ++ x) (sym n) ∙ members-split set 0 p (64 - p) ∙ ap (membersFrom set 0) z)
+    (s .listing .so-far)
+
 pub puts-as : {xs ys l m : List ℕ} {i j : ℕ} → xs ≡ ys → Puts xs l i j m → Puts ys l i j m
 puts-as {l = l} {m = m} {i = i} {j = j} e p = subst (λ x. Puts x l i j m) e p
 
@@ -264,6 +346,58 @@ row-short node kind check denied granted =
       verdict-short kind check denied granted,
     )
 
+-- ---- how long a row is, closely
+
+pub short-decimal : (n : ℕ) → n < 100 → length (decimal n) ≤ 2
+short-decimal n h =
+    by-split (ltb n 10)
+    (λ t. rw (decimal-1 (ltb-true n 10 t)) (omega arith))
+    (λ t. rw (decimal-2 (ltb-false n 10 t) h) (omega arith))
+
+node-decimal : (n : ℕ) → n < 10000 → length (decimal n) ≤ 4
+node-decimal n h =
+    by-split (ltb n 100)
+    (λ t. omega (arith, short-decimal n (ltb-true n 100 t)))
+    (λ t.
+    let g : List ℕ = glyph (n / 10 % 10) ∷ [] in
+    let f : List ℕ = glyph (n % 10) ∷ [] in
+    rw (decimal-4 (ltb-false n 100 t) h) (omega (arith, length-append (decimal (n / 100) ++ g) f, length-append (decimal (n / 100)) g, short-decimal (n / 100) (omega arith))))
+
+after-close : (set p count : ℕ) → p + count ≤ 64 → length (afterFirst (membersFrom set p count)) ≤ count * 3
+unfolding afterFirst membersFrom
+after-close set p zero h = omega arith
+after-close set p (suc count) h =
+    let i = after-close set (p + 1) count (omega arith) in
+    by-split (has set p)
+    (λ t. simp t (omega (arith, i, short-decimal p (omega arith), length-append (decimal p) (afterFirst (membersFrom set (p + 1) count)))))
+    (λ t. simp t (omega (arith, i)))
+
+spaced-after : (l : List ℕ) → length (spaced l) ≤ length (afterFirst l)
+unfolding afterFirst
+spaced-after [] = omega arith
+spaced-after (p ∷ l) = omega arith
+
+set-close : (set : ℕ) → length (setBytes set) ≤ 192
+set-close set = omega (arith, spaced-after (membersFrom set 0 64), after-close set 0 64 (omega arith))
+
+row-close : (node kind check denied granted : ℕ) → node < 10000 → length (rowBytes node kind check denied granted) ≤ 413
+row-close node kind check denied granted h =
+    let n = decimal node in
+    let d : List ℕ = 44 ∷ setBytes denied in
+    let g : List ℕ = 44 ∷ setBytes granted in
+    let v : List ℕ = 44 ∷ verdictBytes kind check denied granted in
+    omega (
+      arith,
+      length-append (n ++ d ++ g ++ v) (13 ∷ 10 ∷ []),
+      length-append (n ++ d ++ g) v,
+      length-append (n ++ d) g,
+      length-append n d,
+      node-decimal node h,
+      set-close denied,
+      set-close granted,
+      verdict-short kind check denied granted,
+    )
+
 -- ---- rows, one after another
 
 module _ (kinds checks denied granted : List ℕ) where
@@ -293,6 +427,20 @@ module _ (kinds checks denied granted : List ℕ) where
       let e : rowsFrom kinds checks denied granted 0 i ++ rowAt i ≡ rowsFrom kinds checks denied granted 0 (i + 1) =
       ap (λ j. rowsFrom kinds checks denied granted 0 i ++ rowAt j) (sym z) ∙ rows-more 0 i ∙ ap (rowsFrom kinds checks denied granted 0) (sym (add-one i)) in
       record { so-far = puts-as e (puts-then (r .so-far) p); low = omega (arith, r .low, p .answer, row-short i (getD kinds i 0) (getD checks i 0) (getD denied i 0) (getD granted i 0)) }
+
+  rows-close : (i count : ℕ) → i + count ≤ 1024 → length (rowsFrom kinds checks denied granted i count) ≤ count * 413
+  unfolding rowsFrom
+  rows-close i zero h = omega arith
+  rows-close i (suc count) h =
+      omega (
+        arith,
+        length-append (rowAt i) (rowsFrom kinds checks denied granted (i + 1) count),
+        row-close i (getD kinds i 0) (getD checks i 0) (getD denied i 0) (getD granted i 0) (omega arith),
+        rows-close (i + 1) count (omega arith),
+      )
+
+  pub result-close : {n : ℕ} → n ≤ 1024 → length (resultBytes n kinds checks denied granted) ≤ n * 413 + 29
+  result-close {n} h = omega (arith, length-append headerBytes (rowsFrom kinds checks denied granted 0 n), rows-close 0 n (omega arith))
 
   pub rowing-end : {l m : List ℕ} {from next i n : ℕ} → Rowing l from next i m → i ≡ n → Puts (rowsFrom kinds checks denied granted 0 n) l from next m
   rowing-end {l} {m} {from} {next} r e = subst (λ j. Puts (rowsFrom kinds checks denied granted 0 j) l from next m) e (r .so-far)

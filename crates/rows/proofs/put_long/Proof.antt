@@ -1,9 +1,9 @@
-use mathlib.Core.Path.{_∙_, subst}
+use mathlib.Core.Path.{_∙_}
 use native.Mathlib.Omega.{arith}
 use Rattle.rows.specs.Result.Pieces.{decimal-digits, fewest-short}
 use borrow.Author.Needs.{needs}
-use Rattle.rows.proofs.put_number.Statement.{statement}
-use Rattle.rows.proofs.put_number.Tie as tie
+use Rattle.rows.proofs.put_long.Statement.{statement}
+use Rattle.rows.proofs.put_long.Tie as tie
 
 decimal-requires : tie.Need-decimal-requires
 decimal-requires c κs = search needs
@@ -27,8 +27,8 @@ returns c =
     let d = c .before .before .before .before .before .decimal in
     rw (d .ensures .1 .1 ∙ decimal-digits 20 _ _ (d .ensures .1 .0) (fewest-short _ _ (d .ensures .1 .0) (search needs))) at (c .before .before .put-all .ensures)
 
-pub put-number-spec : {M : Type 1} → statement M
-put-number-spec =
+pub put-long-spec : {M : Type 1} → statement M
+put-long-spec =
     tie.close
     (tie.spec
     decimal-requires

@@ -1,0 +1,25 @@
+use mathlib.Core.Path.{ap}
+use mathlib.Core.List.{[], _∷_}
+use Prim.Native.Nat.{ℕ}
+use Rattle.rows.specs.Result.Pieces.{puts-as, one-glyph}
+use borrow.Author.Needs.{needs}
+use Rattle.rows.proofs.put_digit.Statement.{statement}
+use Rattle.rows.proofs.put_digit.Tie as tie
+
+add-put : tie.Need-add-put
+add-put c = search needs
+
+cast-put : tie.Need-cast-put
+cast-put c = search needs
+
+put-requires : tie.Need-put-requires
+put-requires c κs = search needs
+
+same-length : tie.Need-same-length
+same-length c = search needs
+
+returns : tie.Need-returns
+returns c = puts-as (ap (λ (x : ℕ). x ∷ []) (one-glyph (c .before .before .before .before .before .pre .1))) (c .before .before .put .ensures)
+
+pub put-digit-spec : {M : Type 1} → statement M
+put-digit-spec = tie.close (tie.spec add-put cast-put put-requires same-length returns)

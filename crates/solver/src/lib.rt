@@ -4,7 +4,7 @@ use graph::Refusal;
 use sets::Set;
 ghost use mathlib.Core.Path.{_≡_};
 ghost use mathlib.Core.Bool.{true, false};
-ghost use Prim.Native.Nat.{ℕ, _+_, _≤_, _<_};
+ghost use Prim.Native.Nat.{ℕ, _+_, _-_, _≤_, _<_};
 ghost use lib.ListN.{length, getD};
 ghost use Rattle.truth.specs.Truth.{Says};
 ghost use Rattle.sets.specs.Sets.{has};
@@ -118,14 +118,14 @@ fn link(head: &mut [u16], prev: &mut [u16], n: usize, m: usize, froms: &[u16])
     }
 }
 
-// Every node goes on the stack.
+// Every node goes on the stack, the first on top: what calls stands before what is called in most graphs, and is then taken up first.
 fn fill(stack: &mut [u16], n: usize)
     requires { ⌜ (n ≤ length (now stack)) × (n < 65536) ⌝ }
-    ensures { λ r. ⌜ ((i : ℕ) → i < n → getD (now (stack .exit)) i 0 ≡ i) ⌝ }
+    ensures { λ r. ⌜ ((i : ℕ) → i < n → getD (now (stack .exit)) i 0 ≡ n - 1 - i) ⌝ }
 {
     let mut i = 0;
     while i < n {
-        stack[i] = i as u16;
+        stack[i] = (n - 1 - i) as u16;
         i += 1;
     }
 }

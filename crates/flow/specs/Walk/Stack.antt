@@ -76,11 +76,13 @@ none-stacked nodes d st w n l =
     by-split (eqb (getD d n 0) 0) (eqb-true (getD d n 0) 0) (λ q. let r = w .marked n l (eqb-false (getD d n 0) 0 q) in absurd (omega (arith, r .1)))
 
 -- every node on the stack, every mark set
-pub all-stacked : (nodes : ℕ) (d st : List ℕ) → zeros d ≡ 0 → nodes ≤ length st → ((j : ℕ) → j < nodes → getD st j 0 ≡ j) → Stacked nodes d st nodes
+pub all-stacked : (nodes : ℕ) (d st : List ℕ) → zeros d ≡ 0 → nodes ≤ length st → ((j : ℕ) → j < nodes → getD st j 0 ≡ nodes - 1 - j) → Stacked nodes d st nodes
 all-stacked nodes d st z l h = record {
   free = omega arith;
-  entries = λ j lj. rw (h j lj) lj;
-  marked = λ n ln q. (n, ln, h n ln);
+  entries = λ j lj. omega (arith, h j lj);
+  marked = λ n ln q.
+      let i : nodes - 1 - n < nodes = omega arith in
+      (nodes - 1 - n, i, omega (arith, h (nodes - 1 - n) i));
 }
 
 pub zeros-none : (d : List ℕ) → ((j : ℕ) → j < length d → getD d j 0 ≡ 1) → zeros d ≡ 0

@@ -2,7 +2,7 @@
 use mathlib.Core.Path.{_≡_, refl, sym, ap, ap₂, _∙_}
 use mathlib.Core.List.{List}
 use mathlib.Core.Bool.{Bool, true, false, cond}
-use Prim.Native.Nat.{ℕ, zero, suc, _+_, _≤_, _<_, _^_}
+use Prim.Native.Nat.{ℕ, zero, suc, _+_, _-_, _≤_, _<_, _^_}
 use native.Mathlib.Decide.{ℕ-discrete}
 use native.Mathlib.Omega.{arith}
 use lib.Dec.{eqb}
@@ -173,7 +173,7 @@ module _ (g : Graph) (y : System) (w a head prev : List ℕ) (setting : Setting 
 
 -- every node on the stack, and all sums as they begin
 pub walk-begins : (g : Graph) (y : System) (w a s q d st : List ℕ) → Acceptable g → Begun y (g .k) (g .n) (g .checks) (g .entries) (g .grants) s q
-    → g .n ≤ length s → g .n ≤ length q → g .n ≤ length d → g .n ≤ length st → ((j : ℕ) → j < length d → getD d j 0 ≡ 1) → ((j : ℕ) → j < g .n → getD st j 0 ≡ j)
+    → g .n ≤ length s → g .n ≤ length q → g .n ≤ length d → g .n ≤ length st → ((j : ℕ) → j < length d → getD d j 0 ≡ 1) → ((j : ℕ) → j < g .n → getD st j 0 ≡ g .n - 1 - j)
     → Walking g y w a (state s q d st (g .n))
 walk-begins g y w a s q d st acc b ls lq ld lst ones full = record {
   pending = record {

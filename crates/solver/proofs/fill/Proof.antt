@@ -6,13 +6,19 @@ use Rattle.solver.proofs.fill.Statement.{statement}
 use Rattle.solver.proofs.fill.Tie as tie
 
 abbrev Inv-loop : tie.InvT-loop
-Inv-loop stack₀ n i₀ stack i = Filled (λ j. j) n stack₀ stack i
+Inv-loop stack₀ n i₀ stack i = Filled (λ j. n - 1 - j) n stack₀ stack i
 
 abbrev μ-loop : tie.MeasureT-loop
 μ-loop stack₀ n i₀ stack i = n - i
 
 loop-holds : tie.Need-loop-holds Inv-loop μ-loop
 loop-holds c = filled-none _ _ _
+
+sub-stack : tie.Need-sub-stack Inv-loop μ-loop
+sub-stack c = omega arith
+
+sub-stack-2 : tie.Need-sub-stack-2 Inv-loop μ-loop
+sub-stack-2 c = omega arith
 
 cast-stack : tie.Need-cast-stack Inv-loop μ-loop
 cast-stack c = omega arith
@@ -45,6 +51,8 @@ fill-spec =
     Inv-loop
     μ-loop
     loop-holds
+    sub-stack
+    sub-stack-2
     cast-stack
     mul-stack
     slice-write-stack

@@ -1,5 +1,5 @@
 use mathlib.Core.Path.{refl}
-use Prim.Native.Nat.{ℕ, _<_}
+use Prim.Native.Nat.{ℕ}
 use Rattle.flow.specs.Walk.Taken.{walk-begins, rested, storable}
 use lib.ListN.{length-replicate, getD-replicate}
 use native.Mathlib.Omega.{arith}

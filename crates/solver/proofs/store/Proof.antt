@@ -3,8 +3,6 @@ use Rattle.flow.specs.Walk.Settled.{may-any}
 use lib.ListN.{getD-replicate}
 use native.Mathlib.Omega.{arith}
 use mathlib.Core.Path.{_∙_, refl, sym}
-use Prim.Native.Nat.{_<_}
-use borrow.Author.Needs.{needs}
 use Rattle.solver.proofs.store.Statement.{statement}
 use Rattle.solver.proofs.store.Tie as tie
 

@@ -21,10 +21,11 @@ fn count(head: &[u8; 7]) -> usize
         + digit(head[5])
 }
 
-fn read_bytes(buffer: &mut [u8], n: usize)
+// How many of n bytes were there.
+fn read_bytes(buffer: &mut [u8], n: usize) -> usize
     requires { ⌜ n ≤ length (now buffer) ⌝ }
 {
-    io::read_full(STDIN_FILENO, &mut buffer[0..n]);
+    io::read_full(STDIN_FILENO, &mut buffer[0..n])
 }
 
 fn answer_letter(letter: u8, bytes: &[u8]) {
@@ -49,7 +50,7 @@ fn answer(letter: u8, buffer: &[u8], n: usize)
     answer_letter(letter, &buffer[0..n]);
 }
 
-// Reads and answers one request. False where there is none left.
+// Reads and answers one request. False where there is none left, or none that is whole.
 fn serve(buffer: &mut [u8]) -> bool
     requires { ⌜ 99999 ≤ length (now buffer) ⌝ }
 {
@@ -58,7 +59,9 @@ fn serve(buffer: &mut [u8]) -> bool
         return false;
     }
     let n = count(&head);
-    read_bytes(buffer, n);
+    if read_bytes(buffer, n) < n {
+        return false;
+    }
     answer(head[0], buffer, n);
     true
 }

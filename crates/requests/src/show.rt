@@ -9,12 +9,23 @@ pub const BLANK_U16: u16 = 9;
 
 pub const BLANK_U64: u64 = 9;
 
+// After a write that fails nothing more is written, so that what was written is the start of the answers.
+fn stop_unless(written: bool) {
+    if !written {
+        libc::close(STDOUT_FILENO);
+    }
+}
+
 pub fn print(bytes: &[u8]) {
-    io::write_all(STDOUT_FILENO, bytes);
+    stop_unless(io::write_all(STDOUT_FILENO, bytes));
+}
+
+pub fn print_decimal(n: u64) {
+    stop_unless(io::print_decimal(STDOUT_FILENO, n));
 }
 
 pub fn print_number(n: usize) {
-    io::print_decimal(STDOUT_FILENO, n as u64);
+    print_decimal(n as u64);
 }
 
 pub fn print_after_comma(n: usize) {
@@ -40,7 +51,7 @@ fn print_place(i: usize, n: u64) {
     if 0 < i {
         print(b" ");
     }
-    io::print_decimal(STDOUT_FILENO, n);
+    print_decimal(n);
 }
 
 pub fn print_u64s(s: &[u64]) {

@@ -1,6 +1,8 @@
-// Reads a graph's text from standard input and writes the result's rows, or the refusal's, to standard output.
+// Reads a graph's text from standard input and writes the result's rows, or the refusal's, to standard output. Nothing is written there unless the end
+// of the input was seen: a text that was cut short by a failed read may be a good text of another graph.
 use graph::Judged;
 use graph::Refusal;
+use libc::STDERR_FILENO;
 use libc::STDIN_FILENO;
 use libc::STDOUT_FILENO;
 use rows::Written;
@@ -14,9 +16,15 @@ fn at_most(n: usize, most: usize) -> usize
     if most < n { most } else { n }
 }
 
+fn complain(what: &[u8]) {
+    io::write_all(STDERR_FILENO, what);
+}
+
 fn write_first(out: &[u8], count: usize) {
     let n = at_most(count, out.len());
-    io::write_all(STDOUT_FILENO, &out[0..n]);
+    if !io::write_all(STDOUT_FILENO, &out[0..n]) {
+        complain(b"verdicts: the rows could not be written to their end\n");
+    }
 }
 
 fn refuse(why: Refusal) {
@@ -188,20 +196,25 @@ fn answer(text: &[u8]) {
     }
 }
 
-// Whether standard input has a byte more than the text buffer holds.
-fn has_more() -> bool {
+// Tries one more byte: 0 at the end of the input, 1 where there is one, and a negative number where it can't be read.
+fn read_one_more() -> isize {
     let mut byte = [0u8; 1];
-    0 < io::read_full(STDIN_FILENO, &mut byte)
+    libc::read(STDIN_FILENO, &mut byte)
 }
 
 fn main() {
     let mut buffer = [0u8; 65536];
     let count = io::read_full(STDIN_FILENO, &mut buffer);
-    if count == 65536 {
-        if has_more() {
+    let more = read_one_more();
+    if more == 0 {
+        answer(&buffer[..count]);
+        return;
+    }
+    if 0 < more {
+        if count == 65536 {
             refuse(Refusal::TooLong);
             return;
         }
     }
-    answer(&buffer[..count]);
+    complain(b"verdicts: the text could not be read to its end\n");
 }

@@ -1,6 +1,6 @@
 //! The other worked cases, all with K = 2.
 
-use super::build::{empty_graph, set};
+use crate::build::{empty_graph, set};
 use crate::graph::Graph;
 use crate::solve::{solve, verdict, ALWAYS_FAILS, NEVER_REACHED};
 

@@ -1,30 +1,10 @@
 use std::collections::BTreeSet;
 
-use super::build::set;
+use crate::build::{gateway, set, with_crlf, GATEWAY_ROWS};
 use crate::graph::Graph;
 use crate::machine::{full_inspection, quick_inspection, step, Inspection};
 use crate::rows::result_of;
 use crate::solve::{solve, solve_into, verdict, Solution};
-use crate::text::read_graph;
-
-pub const INPUT: &str = "G,2,8,8,,
-N,0,C,,E,0 1
-N,1,C,,E,1
-N,2,K,0,,0 1
-N,3,R,,,0 1
-N,4,C,,P,0 1
-N,5,K,0,,0 1
-N,6,R,,,0 1
-N,7,R,,,1
-E,0,2,C,,
-E,1,2,C,,
-E,2,3,T,,
-E,1,4,C,,
-E,4,5,C,,
-E,5,6,T,,
-E,4,6,T,,
-E,1,7,T,,
-";
 
 pub const OUTPUT: &str = "node,denied,granted,verdict
 0,,0 1,
@@ -37,14 +17,6 @@ pub const OUTPUT: &str = "node,denied,granted,verdict
 7,0,1,
 ";
 
-fn with_crlf(text: &str) -> String {
-    text.replace('\n', "\r\n")
-}
-
-pub fn gateway() -> Graph {
-    read_graph(with_crlf(INPUT).as_bytes()).unwrap()
-}
-
 fn solved() -> (Graph, Solution) {
     let graph = gateway();
     let solution = solve(&graph).unwrap();
@@ -53,7 +25,7 @@ fn solved() -> (Graph, Solution) {
 
 #[test]
 fn prints_the_eight_result_rows() {
-    assert_eq!(result_of(with_crlf(INPUT).as_bytes()), with_crlf(OUTPUT));
+    assert_eq!(result_of(with_crlf(GATEWAY_ROWS).as_bytes()), with_crlf(OUTPUT));
 }
 
 #[test]

@@ -1,4 +1,4 @@
-use super::build::{empty_graph, set};
+use crate::build::{empty_graph, set};
 use crate::graph::{Graph, Refusal, CALL_EDGE, CHECK, TRANSFER_EDGE};
 
 fn sound() -> Graph {

@@ -1,4 +1,4 @@
-use super::build::empty_graph;
+use crate::build::empty_graph;
 use crate::graph::{Graph, Refusal};
 use crate::machine::step;
 use crate::rows::result_of;

@@ -1,7 +1,6 @@
 //! One graph for each of the errors that look right, on which the error shows.
 
-use super::build::{empty_graph, set};
-use super::gateway::gateway;
+use crate::build::{empty_graph, gateway, set};
 use crate::solve::{solve, verdict, NEEDED};
 
 #[test]

@@ -1,5 +1,4 @@
-use super::build::empty_graph;
-use super::gateway::gateway;
+use crate::build::{empty_graph, gateway};
 use crate::graph::{Graph, Refusal};
 use crate::machine::{full_inspection, quick_inspection, step};
 use crate::solve::{solve_into, verdict};

@@ -1,4 +1,3 @@
-mod build;
 mod cases;
 mod fresh;
 mod gateway;
@@ -6,6 +5,7 @@ mod graph_check;
 mod limits;
 mod looks_right;
 mod machine_refusals;
+mod named;
 mod paper_example;
 mod properties;
 mod requests;

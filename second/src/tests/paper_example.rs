@@ -1,7 +1,7 @@
 //! The e-commerce example. Its drawing is not in the paper's text: the nine call edges below that
 //! the text names are its own, the first call and the transfers inside each method are assumed.
 
-use super::build::{empty_graph, set};
+use crate::build::{empty_graph, set};
 use crate::graph::Graph;
 use crate::solve::{solve, verdict, ALWAYS_PASSES, NEEDED};
 

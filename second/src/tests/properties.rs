@@ -3,7 +3,7 @@
 
 use std::collections::BTreeSet;
 
-use super::build::empty_graph;
+use crate::build::empty_graph;
 use crate::graph::Graph;
 use crate::machine::{full_inspection, quick_inspection, step};
 use crate::sets::lies_within;

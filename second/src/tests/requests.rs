@@ -1,6 +1,7 @@
 //! Requests written by hand and their whole answers.
 
-use super::gateway::{INPUT, OUTPUT};
+use super::gateway::OUTPUT;
+use crate::build::{gateway, with_crlf, GATEWAY_ROWS};
 use crate::requests::{graph_numbers, split, Call, Malformed, Request};
 use crate::tally::Tally;
 
@@ -33,10 +34,6 @@ fn calls(graph: &str, calls: &str) -> String {
 fn solved_gateway(after: &str) -> String {
     let answers = calls(GATEWAY, &format!("{SOLVE} {after}"));
     answers.strip_prefix(SOLVED).unwrap().to_string()
-}
-
-fn with_crlf(text: &str) -> String {
-    text.replace('\n', "\r\n")
 }
 
 #[test]
@@ -208,7 +205,7 @@ fn refusals_are_printed() {
 
 #[test]
 fn texts_are_answered_by_their_rows() {
-    let text = with_crlf(INPUT);
+    let text = with_crlf(GATEWAY_ROWS);
     assert_eq!(answer(b'T', &text).unwrap(), text);
     assert_eq!(answer(b'T', &text.replace("E,0,2,C", "\"E\",0,\"2\",C")).unwrap(), text);
     assert_eq!(answer(b'T', &text.replace("0 1", "0 2")).unwrap(), "refused,2,0\r\n");
@@ -221,7 +218,7 @@ fn texts_are_answered_by_their_rows() {
 
 #[test]
 fn slice_lengths_of_the_reader_come_first() {
-    let text = with_crlf(INPUT);
+    let text = with_crlf(GATEWAY_ROWS);
     let right = [1_024, 1_024, 1_024, 1_024, 1_024, 4_096, 4_096, 4_096];
     let put = |lengths: &[usize; 8], text: &str| {
         let words: String = lengths.iter().map(|length| format!("{length} ")).collect();
@@ -266,10 +263,7 @@ fn what_the_protocol_does_not_know() {
 
 #[test]
 fn a_call_is_read_as_it_is_written() {
-    assert_eq!(
-        crate::requests::spaced_numbers(&graph_numbers(&super::gateway::gateway())),
-        GATEWAY
-    );
+    assert_eq!(crate::requests::spaced_numbers(&graph_numbers(&gateway())), GATEWAY);
     let stack = Call::LendStack { height: u64::MAX, slice: vec![3, 65_535] };
     assert_eq!(stack.numbers(), [7, u64::MAX, 2, 3, 65_535]);
     let sets = Call::LendSets { denied: vec![u64::MAX], granted: vec![] };

@@ -1,6 +1,6 @@
 //! Every row of the table of texts read closely, with its place.
 
-use super::build::set;
+use crate::build::set;
 use crate::graph::{Graph, Refusal};
 use crate::rows::result_of;
 use crate::text::read_graph;

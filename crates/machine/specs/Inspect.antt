@@ -1,6 +1,7 @@
 -- What `full` and `quick` promise. Definitions alone: that each promise leaves one answer is below.
 pub mod Laws
 pub mod Calls
+pub mod Impostors
 use Prim.Native.Nat.{ℕ, _<_, _≤_}
 use mathlib.Core.Path.{_≡_}
 use mathlib.Core.List.{List}

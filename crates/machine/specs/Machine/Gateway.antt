@@ -99,3 +99,12 @@ rows = record {
 
 pub gateway-table : {x : Slices} → Content gateway x → Table x
 gateway-table c = rw (gateway-one c) rows
+
+-- the third stack, where the two differ in their count
+pub full-at-5 : full gateway 0 (5 ∷ 4 ∷ 1 ∷ []) ≡ passes-after 2
+unfolding look
+full-at-5 = ap (λ l. l .by-full) (rows .stack-1-4-5)
+
+pub quick-at-5 : {x : Slices} → Content gateway x → quick (x .denied) (x .granted) 0 (5 ∷ 4 ∷ 1 ∷ []) ≡ passes-after 1
+unfolding look
+quick-at-5 c = ap (λ l. l .by-quick) (gateway-table c .stack-1-4-5)

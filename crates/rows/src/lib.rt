@@ -2,6 +2,7 @@
 use graph::Refusal;
 use sets::Set;
 ghost use mathlib.Core.Path.{_≡_};
+ghost use mathlib.Core.Bool.{cond};
 ghost use mathlib.Core.List.{[], _∷_};
 ghost use Prim.Native.Nat.{_+_, _≤_, _<_};
 ghost use lib.ListN.{length};
@@ -94,12 +95,11 @@ fn put_number(out: &mut [u8], at: usize, n: usize) -> usize
 }
 
 // Notes p where it is a member.
-fn list_one(list: &mut [u8], count: usize, p: usize, set: u64) -> usize
+fn list_one(list: &mut [u8], count: usize, p: usize, member: bool) -> usize
     requires { ⌜ (count < length (now list)) × (p < 64) × (length (now list) ≡ 64) ⌝ }
-    ensures { λ r. ⌜ Puts (membersFrom set p 1) (now (list .entry)) count r (now (list .exit)) ⌝ }
+    ensures { λ r. ⌜ Puts (cond member (p ∷ []) []) (now (list .entry)) count r (now (list .exit)) ⌝ }
 {
-    let members = Set { bits: set };
-    if !members.has(p) {
+    if !member {
         return count;
     }
     list[count] = p as u8;
@@ -115,7 +115,7 @@ fn list_members(list: &mut [u8], set: u64) -> usize
     let mut p: usize = 0;
     let mut rest = set;
     while rest != 0 {
-        count = list_one(list, count, p, set);
+        count = list_one(list, count, p, rest % 2 == 1);
         rest = rest / 2;
         p += 1;
     }

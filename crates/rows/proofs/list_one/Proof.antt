@@ -1,15 +1,12 @@
-use mathlib.Core.Path.{sym, _∙_}
+use mathlib.Core.Path.{sym}
 use borrow.Author.Tests.{not-true, not-false}
-use Rattle.rows.specs.Result.Pieces.{puts-as, puts-none, put-in, member-no, member-yes}
+use Rattle.rows.specs.Result.Pieces.{puts-as, puts-none, put-in, noted-not, noted}
 use borrow.Author.Needs.{needs}
 use Rattle.rows.proofs.list_one.Statement.{statement}
 use Rattle.rows.proofs.list_one.Tie as tie
 
-has-requires : tie.Need-has-requires
-has-requires c κs = search needs
-
 returns : tie.Need-returns
-returns c = puts-as (sym (member-no _ _ (sym (c .before .has .ensures) ∙ not-true _ (c .if1 .taken)))) puts-none
+returns c = puts-as (sym (noted-not (c .before .args .member) _ (not-true _ (c .if1 .taken)))) puts-none
 
 cast-list : tie.Need-cast-list
 cast-list c = search needs
@@ -24,9 +21,8 @@ same-length : tie.Need-same-length
 same-length c = search needs
 
 returns-2 : tie.Need-returns-2
-returns-2 c = puts-as (sym (member-yes _ _ (sym (c .before .has .ensures) ∙ not-false _ (c .if1 .left)))) put-in
+returns-2 c = puts-as (sym (noted (c .before .args .member) _ (not-false _ (c .if1 .left)))) put-in
 
 pub list-one-spec : {M : Type 1} → statement M
 list-one-spec =
-    tie.close
-    (tie.spec has-requires returns cast-list slice-write-list add-result same-length returns-2)
+    tie.close (tie.spec returns cast-list slice-write-list add-result same-length returns-2)

@@ -2,7 +2,7 @@
 use Prim.Native.Nat.{ℕ, zero, suc, _+_, _-_, _*_, _/_, _%_, _^_, _≤_, _<_}
 use mathlib.Core.Path.{_≡_, refl, sym, ap, ap₂, _∙_, subst}
 use mathlib.Core.List.{List, [], _∷_, _++_, append-nil, append-assoc}
-use mathlib.Core.Bool.{true, false}
+use mathlib.Core.Bool.{Bool, true, false, cond}
 use native.Mathlib.Numerals.{add-one}
 use native.Mathlib.Nat.{add-zero, pow-suc, pow-le-pow-right, mod-eq-of-lt, sub-zero}
 use native.Mathlib.Omega.{arith}
@@ -15,7 +15,7 @@ use Rattle.truth.specs.Truth.Kit.{take-sets}
 use Rattle.io.specs.Digits.{glyph, digits, Fewest}
 use Rattle.graph.specs.Graph.{verdictOf}
 use Rattle.sets.specs.Sets.{has}
-use Rattle.sets.specs.Sets.Members.{has-past, has-suc}
+use Rattle.sets.specs.Sets.Members.{has-past, has-zero, has-suc}
 use Rattle.rows.specs.Result.{decimalBy, decimal, membersFrom, afterFirst, spaced, setBytes, verdictBytes, rowBytes, headerBytes, rowsFrom, resultBytes}
 
 -- Bytes were written from a place on, as far as the buffer goes, and the place after them is the answer.
@@ -149,14 +149,12 @@ fewest-short n k f h = by-split (ltb 20 k) (λ t. absurd (go (ltb-true 20 k t)))
 
 -- ---- the members of a set
 
-module _ (set p : ℕ) where
-  pub member-no : has set p ≡ false → membersFrom set p 1 ≡ []
-  unfolding membersFrom
-  member-no e = simp e
+module _ (member : Bool) (p : ℕ) where
+  pub noted-not : member ≡ false → cond member (p ∷ []) [] ≡ []
+  noted-not e = simp e
 
-  pub member-yes : has set p ≡ true → membersFrom set p 1 ≡ p ∷ []
-  unfolding membersFrom
-  member-yes e = simp e
+  pub noted : member ≡ true → cond member (p ∷ []) [] ≡ p ∷ []
+  noted e = simp e
 
 pub members-more : (s p count : ℕ) → membersFrom s p count ++ membersFrom s (p + count) 1 ≡ membersFrom s p (suc count)
 unfolding membersFrom
@@ -252,8 +250,11 @@ halving-low {p = p} {rest = rest} s h =
     by-split (ltb p 64) (λ t. ltb-true p 64 t)
     (λ t. let e : 64 - p ≡ 0 = omega (arith, ltb-false p 64 t) in absurd (h (omega (arith, rw e at (s .small)))))
 
-pub halving-more : {set count next p rest : ℕ} {l m n : List ℕ} → Halving set l count p rest m → (rest ≡ 0 → ⊥) → Puts (membersFrom set p 1) m count next n → Halving set l next (p + 1) (rest / 2) n
-halving-more {set} {count} {next} {p} {rest} s h q =
+pub halving-more : {set count next p rest : ℕ} {l m n : List ℕ} → Halving set l count p rest m → (rest ≡ 0 → ⊥) → Puts (cond (eqb (rest % 2) 1) (p ∷ []) []) m count next n → Halving set l next (p + 1) (rest / 2) n
+unfolding membersFrom
+halving-more {set} {count} {next} {p} {rest} {l} {m} {n} s h o =
+    let b : has set p ≡ eqb (rest % 2) 1 = ap (has set) (sym (add-zero p)) ∙ s .same 0 ∙ has-zero rest in
+    let q : Puts (membersFrom set p 1) m count next n = subst (λ (x : Bool). Puts (cond x (p ∷ []) []) m count next n) (sym b) o in
     let low = halving-low s h in
     let e : 64 - p ≡ suc (64 - (p + 1)) = omega arith in
     let d : rest < 2 * 2 ^ (64 - (p + 1)) = omega (arith, rw (e, pow-suc) at (s .small)) in

@@ -168,6 +168,9 @@ fn trans_at(
     requires { ⌜ (i < length (now any)) × (i < length (now ins)) × (i < length (now past)) ⌝ }
     ensures { λ r. ⌜ r ≡ movedBy (now (kinds .entry)) (now (checks .entry)) (now (privileged .entry)) (now (grants .entry)) (systemOf sure) (now (any .entry)) (now (ins .entry)) (now (past .entry)) i ⌝ }
 {
+    if kinds[i] != 2 {
+        return ins[i];
+    }
     let beyond = flow::passed(sure, checks[i], past[i], any[i]);
     flow::moved(
         kinds[i],

@@ -9,7 +9,7 @@ use native.Mathlib.Decide.{ℕ-discrete}
 use lib.Dec.{eqb, ltb}
 use lib.ListN.{length, getD, set}
 use lib.Seq.{getD-set-same, getD-set-other}
-use borrow.Author.Tests.{eqb-true, eq-eqb, eqb-false, lt-ltb, ltb-true}
+use borrow.Author.Tests.{eqb-true, eq-eqb, ne-eqb, eqb-false, lt-ltb, ltb-true}
 use Rattle.truth.specs.Truth.Bools.{by-split, clash, both, left, right, either, or-left, or-right}
 use Rattle.sets.specs.Sets.{has, empty, common, add}
 use Rattle.sets.specs.Sets.Members.{has-common, has-empty, has-add, below-members, has-join}
@@ -22,6 +22,11 @@ use Rattle.graph.specs.Graph.Rule.{callRule, transRule, outRule, out-by-rule, o
 use Rattle.graph.specs.Graph.Code.{isCheck-code, check-code, privileged-code, entry-code, grants-code, from-code, to-code, isCall-code}
 use Rattle.flow.specs.Walk.{start, merge, callNum, pastNum, transNum, edgeNum, judgedNum, startIns, startPast, pastBy, carried, fromOf, toOf, counts, into, Begun, Toward, Closed, PastBelow, Setting, Good}
 use Rattle.flow.specs.Walk.Order.{toward-refl, toward-trans, merge-left, merge-both, merge-lt, start-lt, start-first}
+
+-- the trans set of a node that is no check
+pub trans-plain : (kind check privileged grants arrived past : ℕ) → (kind ≡ 2 → ⊥) → arrived ≡ transNum kind check privileged grants arrived past
+unfolding transNum
+trans-plain kind check privileged grants arrived past h = simp (ne-eqb kind 2 h)
 
 -- ---- what an edge carries
 

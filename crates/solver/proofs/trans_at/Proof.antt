@@ -1,6 +1,19 @@
+use Rattle.flow.specs.Walk.Sums.{trans-plain}
 use borrow.Author.Needs.{needs}
 use Rattle.solver.proofs.trans_at.Statement.{statement}
 use Rattle.solver.proofs.trans_at.Tie as tie
+
+shared-slice-read-if1 : tie.Need-shared-slice-read-if1
+shared-slice-read-if1 c = search needs
+
+mul-result : tie.Need-mul-result
+mul-result c = search needs
+
+shared-slice-read-result : tie.Need-shared-slice-read-result
+shared-slice-read-result c = search needs
+
+returns : tie.Need-returns
+returns c = trans-plain _ _ _ _ _ _ (c .before .if1 .taken)
 
 mul-passed : tie.Need-mul-passed
 mul-passed c = search needs
@@ -50,13 +63,17 @@ shared-slice-read-moved-5 c = search needs
 moved-requires : tie.Need-moved-requires
 moved-requires c κs = search needs
 
-returns : tie.Need-returns
-returns c = rw (← c .before .before .before .before .before .before .passed .ensures) (c .moved .ensures)
+returns-2 : tie.Need-returns-2
+returns-2 c = rw (← c .before .before .before .before .before .before .passed .ensures) (c .moved .ensures)
 
 pub trans-at-spec : {M : Type 1} → statement M
 trans-at-spec =
     tie.close
     (tie.spec
+    shared-slice-read-if1
+    mul-result
+    shared-slice-read-result
+    returns
     mul-passed
     shared-slice-read-passed
     mul-passed-2
@@ -73,4 +90,4 @@ trans-at-spec =
     mul-moved-3
     shared-slice-read-moved-5
     moved-requires
-    returns)
+    returns-2)

@@ -77,7 +77,7 @@ fn keeps_all(denied: &[u64], granted: &[u64], may: &[u64], sure: &[u64]) -> bool
     keeps_u64(sure, 0)
 }
 
-pub fn solve_into(
+pub(crate) fn solve_into(
     k: usize,
     n: usize,
     m: usize,
@@ -246,7 +246,7 @@ fn print_step(answer: Stepped, height: usize) -> usize {
     }
 }
 
-pub fn step_on(
+pub(crate) fn step_on(
     next: usize,
     height: usize,
     k: usize,
@@ -325,7 +325,7 @@ fn write_result(
     write_result_to(&mut buffer[0..long], n, kinds, checks, denied, granted);
 }
 
-pub fn refusal(number: usize, place: usize) -> Refusal {
+pub(crate) fn refusal(number: usize, place: usize) -> Refusal {
     match number {
         1 => Refusal::Shape,
         2 => Refusal::Node(place),
@@ -347,7 +347,7 @@ fn write_refusal_to(buffer: &mut [u8], why: Refusal) {
     print_written(written, buffer);
 }
 
-pub fn write_refusal(length: usize, why: Refusal) {
+pub(crate) fn write_refusal(length: usize, why: Refusal) {
     let mut buffer = [BLANK_U8; 400000];
     let long = at_most(length, 400000);
     write_refusal_to(&mut buffer[0..long], why);
@@ -463,7 +463,7 @@ fn judge(
 }
 
 // A call that writes no slice: 0, 2, 3, 4 or 8.
-pub fn ask(
+pub(crate) fn ask(
     call: usize,
     asked: usize,
     height: usize,

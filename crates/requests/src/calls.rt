@@ -531,7 +531,7 @@ fn answer_numbers(numbers: &[usize]) {
 }
 
 // Answers C. A request's 99,999 bytes hold at most 50,000 numbers.
-pub fn answer_calls(bytes: &[u8]) {
+pub(crate) fn answer_calls(bytes: &[u8]) {
     let mut numbers = [0usize; 50000];
     let count = read_numbers(&mut numbers, bytes);
     answer_numbers(&numbers[0..at_most(count, 50000)]);

@@ -1,21 +1,21 @@
 // Numbers out of a request's bytes, and slices out of its numbers.
 ghost use Prim.Native.Nat.{_≤_};
 
-pub fn at_most(n: usize, most: usize) -> usize
+pub(crate) fn at_most(n: usize, most: usize) -> usize
     ensures { λ r. ⌜ r ≤ most ⌝ }
 {
     if most < n { most } else { n }
 }
 
 // A sum that stops at the largest number.
-pub fn plus(a: usize, b: usize) -> usize {
+pub(crate) fn plus(a: usize, b: usize) -> usize {
     if usize::MAX - a < b {
         return usize::MAX;
     }
     a + b
 }
 
-pub fn digit(b: u8) -> usize
+pub(crate) fn digit(b: u8) -> usize
     ensures { λ r. ⌜ r ≤ 9 ⌝ }
 {
     if b < 48 {
@@ -62,7 +62,7 @@ fn after_space(bytes: &[u8], from: usize) -> usize {
 }
 
 // The place after so many spaces, or the end.
-pub fn after_spaces(bytes: &[u8], spaces: usize) -> usize {
+pub(crate) fn after_spaces(bytes: &[u8], spaces: usize) -> usize {
     let mut at: usize = 0;
     let mut left = spaces;
     while 0 < left {
@@ -73,7 +73,7 @@ pub fn after_spaces(bytes: &[u8], spaces: usize) -> usize {
 }
 
 // Stores the numbers that the bytes hold, as far as there is place, and answers how many.
-pub fn read_numbers(numbers: &mut [usize], bytes: &[u8]) -> usize {
+pub(crate) fn read_numbers(numbers: &mut [usize], bytes: &[u8]) -> usize {
     let mut at: usize = 0;
     let mut count: usize = 0;
     while count < numbers.len() {
@@ -88,7 +88,7 @@ pub fn read_numbers(numbers: &mut [usize], bytes: &[u8]) -> usize {
 }
 
 // The number at a place, or 0 past the end.
-pub fn peek(numbers: &[usize], i: usize) -> usize {
+pub(crate) fn peek(numbers: &[usize], i: usize) -> usize {
     if i < numbers.len() {
         return numbers[i];
     }
@@ -108,7 +108,7 @@ fn peek_u64(numbers: &[usize], i: usize) -> u64 {
 }
 
 // Stores the list at a place, which is its length and so many numbers, as far as it fits, and answers how many numbers that is.
-pub fn fill_u8(to: &mut [u8], numbers: &[usize], at: usize) -> usize {
+pub(crate) fn fill_u8(to: &mut [u8], numbers: &[usize], at: usize) -> usize {
     let count = peek(numbers, at);
     let first = plus(at, 1);
     let mut i: usize = 0;
@@ -122,7 +122,7 @@ pub fn fill_u8(to: &mut [u8], numbers: &[usize], at: usize) -> usize {
     i
 }
 
-pub fn fill_u16(to: &mut [u16], numbers: &[usize], at: usize) -> usize {
+pub(crate) fn fill_u16(to: &mut [u16], numbers: &[usize], at: usize) -> usize {
     let count = peek(numbers, at);
     let first = plus(at, 1);
     let mut i: usize = 0;
@@ -136,7 +136,7 @@ pub fn fill_u16(to: &mut [u16], numbers: &[usize], at: usize) -> usize {
     i
 }
 
-pub fn fill_u64(to: &mut [u64], numbers: &[usize], at: usize) -> usize {
+pub(crate) fn fill_u64(to: &mut [u64], numbers: &[usize], at: usize) -> usize {
     let count = peek(numbers, at);
     let first = plus(at, 1);
     let mut i: usize = 0;

@@ -3,11 +3,11 @@ use graph::Refusal;
 use libc::STDOUT_FILENO;
 
 // What every place of the lent slices holds before a call.
-pub const BLANK_U8: u8 = 9;
+pub(crate) const BLANK_U8: u8 = 9;
 
-pub const BLANK_U16: u16 = 9;
+pub(crate) const BLANK_U16: u16 = 9;
 
-pub const BLANK_U64: u64 = 9;
+pub(crate) const BLANK_U64: u64 = 9;
 
 // After a write that fails nothing more is written, so that what was written is the start of the answers.
 fn stop_unless(written: bool) {
@@ -16,24 +16,24 @@ fn stop_unless(written: bool) {
     }
 }
 
-pub fn print(bytes: &[u8]) {
+pub(crate) fn print(bytes: &[u8]) {
     stop_unless(io::write_all(STDOUT_FILENO, bytes));
 }
 
-pub fn print_decimal(n: u64) {
+pub(crate) fn print_decimal(n: u64) {
     stop_unless(io::print_decimal(STDOUT_FILENO, n));
 }
 
-pub fn print_number(n: usize) {
+pub(crate) fn print_number(n: usize) {
     print_decimal(n as u64);
 }
 
-pub fn print_after_comma(n: usize) {
+pub(crate) fn print_after_comma(n: usize) {
     print(b",");
     print_number(n);
 }
 
-pub fn print_refusal(why: Refusal) {
+pub(crate) fn print_refusal(why: Refusal) {
     print(b"refused");
     print_after_comma(why.number());
     print_after_comma(why.place());
@@ -41,7 +41,7 @@ pub fn print_refusal(why: Refusal) {
 }
 
 // A line: a word that ends in a space, and a number.
-pub fn print_line(word: &[u8], n: usize) {
+pub(crate) fn print_line(word: &[u8], n: usize) {
     print(word);
     print_number(n);
     print(b"\n");
@@ -54,7 +54,7 @@ fn print_place(i: usize, n: u64) {
     print_decimal(n);
 }
 
-pub fn print_u64s(s: &[u64]) {
+pub(crate) fn print_u64s(s: &[u64]) {
     let mut i: usize = 0;
     while i < s.len() {
         print_place(i, s[i]);
@@ -67,7 +67,7 @@ fn wide(x: u16) -> u64 {
     x as u64
 }
 
-pub fn print_u16s(s: &[u16]) {
+pub(crate) fn print_u16s(s: &[u16]) {
     let mut i: usize = 0;
     while i < s.len() {
         print_place(i, wide(s[i]));
@@ -76,14 +76,14 @@ pub fn print_u16s(s: &[u16]) {
     print(b"\n");
 }
 
-pub fn print_unless_kept(kept: bool) {
+pub(crate) fn print_unless_kept(kept: bool) {
     if !kept {
         print(b"written\n");
     }
 }
 
 // Whether the places from `from` on hold what they held before the call.
-pub fn keeps_u8(s: &[u8], from: usize) -> bool {
+pub(crate) fn keeps_u8(s: &[u8], from: usize) -> bool {
     let mut i: usize = from;
     while i < s.len() {
         if s[i] != BLANK_U8 {
@@ -94,7 +94,7 @@ pub fn keeps_u8(s: &[u8], from: usize) -> bool {
     true
 }
 
-pub fn keeps_u16(s: &[u16], from: usize) -> bool {
+pub(crate) fn keeps_u16(s: &[u16], from: usize) -> bool {
     let mut i: usize = from;
     while i < s.len() {
         if s[i] != BLANK_U16 {
@@ -105,7 +105,7 @@ pub fn keeps_u16(s: &[u16], from: usize) -> bool {
     true
 }
 
-pub fn keeps_u64(s: &[u64], from: usize) -> bool {
+pub(crate) fn keeps_u64(s: &[u64], from: usize) -> bool {
     let mut i: usize = from;
     while i < s.len() {
         if s[i] != BLANK_U64 {

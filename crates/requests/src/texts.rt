@@ -279,13 +279,13 @@ fn answer_lent(text: &[u8], lengths: &[usize; 8]) {
 }
 
 // Answers T.
-pub fn answer_text(text: &[u8]) {
+pub(crate) fn answer_text(text: &[u8]) {
     let lengths: [usize; 8] = [1024, 1024, 1024, 1024, 1024, 4096, 4096, 4096];
     answer_lent(text, &lengths);
 }
 
 // Answers L.
-pub fn answer_lengths(bytes: &[u8]) {
+pub(crate) fn answer_lengths(bytes: &[u8]) {
     let mut lengths = [0usize; 8];
     read_numbers(&mut lengths, bytes);
     let from = at_most(after_spaces(bytes, 8), bytes.len());

@@ -267,7 +267,7 @@ fn count_result(n: usize, kinds: &[u8], checks: &[u16], denied: &[u64], granted:
 }
 
 // Writes the result's rows at the start of a buffer. They are counted first where the buffer may be too short for them: no row takes more than
-// 413 bytes.
+// 429 bytes.
 pub fn write_result(
     out: &mut [u8],
     n: usize,
@@ -281,7 +281,7 @@ pub fn write_result(
     if !is_long(n, kinds.len(), checks.len(), denied.len(), granted.len()) {
         return Written::Refused(Refusal::Shape);
     }
-    if n * 413 + 29 <= out.len() {
+    if n * 429 + 29 <= out.len() {
         let count = put_result(out, n, kinds, checks, denied, granted);
         return Written::Bytes(count);
     }

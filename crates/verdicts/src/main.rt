@@ -58,7 +58,7 @@ fn write_rows(
     }
 }
 
-// The rows of at most 158 nodes. A row takes at most 413 bytes, the header 29.
+// The rows of at most 152 nodes. A row takes at most 429 bytes, the header 29.
 fn write_few(n: usize, kinds: &[u8], checks: &[u16], denied: &[u64], granted: &[u64])
     requires { ⌜ (n ≤ length (now kinds)) × (n ≤ length (now checks)) × (n ≤ length (now denied)) × (n ≤ length (now granted)) ⌝ }
 {
@@ -69,7 +69,7 @@ fn write_few(n: usize, kinds: &[u8], checks: &[u16], denied: &[u64], granted: &[
 fn write_many(n: usize, kinds: &[u8], checks: &[u16], denied: &[u64], granted: &[u64])
     requires { ⌜ (n ≤ length (now kinds)) × (n ≤ length (now checks)) × (n ≤ length (now denied)) × (n ≤ length (now granted)) ⌝ }
 {
-    let mut out = [0u8; 423000];
+    let mut out = [0u8; 440000];
     write_rows(&mut out, n, kinds, checks, denied, granted);
 }
 
@@ -148,7 +148,7 @@ fn solve_and_write(
     );
     match judged {
         Judged::Accepted => {
-            if nodes <= 158 {
+            if nodes <= 152 {
                 write_few(nodes, kinds, checks, &denied, &granted);
             } else {
                 write_many(nodes, kinds, checks, &denied, &granted);

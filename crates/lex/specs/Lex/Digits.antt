@@ -1,21 +1,18 @@
 -- Digits met one by one: the number that they say, and a list of such numbers.
-use Prim.Native.Nat.{ℕ, suc, _+_, _-_, _*_, _^_, _≤_, _<_}
+use Prim.Native.Nat.{ℕ, _+_, _*_, _^_, _≤_, _<_}
 use mathlib.Core.Path.{_≡_, refl, ap, sym, _∙_}
-use mathlib.Core.Bool.{true, false}
-use mathlib.Core.List.{List, [], _∷_, _++_, append-nil, append-assoc}
+use mathlib.Core.List.{List, [], _∷_, _++_, append-assoc}
 use native.Mathlib.Omega.{arith}
 use lib.ListN.{length, getD, length-append}
 use lib.Dec.{eqb}
 use lib.Bits.{bitOr}
 use borrow.Author.Tests.{le-leb, le-ltb, eqb-true, eqb-false, ne-eqb}
 use Rattle.truth.specs.Truth.Bools.{by-split}
-use Rattle.lex.specs.declared.Decimal.{Decimal}
 use Rattle.lex.specs.declared.Decimal.the-variants.{Value}
-use Rattle.lex.specs.declared.Piece.the-variants.{Part}
-use Rattle.lex.specs.Lex.{digitsFrom, numberOf, onto, words, members, ascending, membersOf, lastAt, partOf}
+use Rattle.lex.specs.Lex.{digitsFrom, numberOf, words, members, ascending, membersOf}
 use Rattle.lex.specs.Lex.Numbers.{number-zero, number-digits}
 use Rattle.lex.specs.Lex.Lists.{list-some}
-use Rattle.lex.specs.Lex.Bare.{Bare, none, byte, calm-above, calm-space, bare-then, bare-long}
+use Rattle.lex.specs.Lex.Bare.{Bare, none, byte, calm-above, calm-space, bare-then}
 
 -- From `at` up to e stand the digits w.
 pub data Digital (s : List ℕ) : ℕ → List ℕ → ℕ → Type 0 where

@@ -11,7 +11,7 @@ use lib.Pow.{pow-lt}
 use borrow.Author.Tests.{eqb-true, ltb-false, lt-ltb}
 use Rattle.truth.specs.Truth.Bools.{by-split}
 use Rattle.truth.specs.Truth.Kit.{shl-one}
-use Rattle.lex.specs.Lex.{commaAt, lastAt, partOf, numberOf, members, membersOf}
+use Rattle.lex.specs.Lex.{commaAt, partOf, numberOf, membersOf}
 use Rattle.lex.specs.Lex.Numbers.{number-small}
 use Rattle.lex.specs.Lex.Bare.{Bare, none, byte, calm-above, bare-then, bare-long, bare-part, bare-comma, bare-end}
 use Rattle.lex.specs.Lex.Digits.{Digital, end, digit, digital-bare, number-1, number-2, number-3, number-4, Listing, listing-start, listing-next, listing-last}
@@ -21,12 +21,11 @@ use Rattle.lex.specs.declared.Piece.{Piece}
 use Rattle.lex.specs.declared.Piece.the-variants.{Part, NoPart}
 use Rattle.records.specs.declared.Form.{Form}
 use Rattle.records.specs.declared.Form.the-variants.{Tag, Number, Own, Kind, Check, Marks, Way, Empty}
-use Rattle.records.specs.declared.Found.{Found}
 use Rattle.records.specs.declared.Found.the-variants.{At, Wrong}
 use Rattle.records.specs.declared.Granted.{Granted}
 use Rattle.records.specs.declared.Granted.the-variants as granted
 use Rattle.records.specs.Records.{says, found, saidBy, formAt, endAt, got, grantsAt}
-use Rattle.records.specs.Records.Forms.{tag-yes, own-yes, number-says, empty-says, check-there, check-none, kind-call, kind-return, kind-check, way-call, way-transfer, marks-empty, marks-p, marks-e, marks-both}
+use Rattle.records.specs.Records.Forms.{tag-yes, own-yes, number-says, empty-says, check-there, check-none, kind-call, kind-return, kind-check, way-call, way-transfer, marks-empty, marks-p, marks-e}
 use Rattle.records.specs.Records.Rows.{grantedOf, grants-all}
 
 -- What a function answers that knows the right answer of some inputs, and has one that says nothing for the others.

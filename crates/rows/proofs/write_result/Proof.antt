@@ -2,7 +2,7 @@ use native.Mathlib.Omega.{arith}
 use borrow.Author.Tests.{not-true, not-false}
 use Rattle.truth.specs.Truth.Tests.{says-true, says-false}
 use Rattle.rows.specs.Result.{shape, result}
-use Rattle.rows.specs.Result.Pieces.{result-close}
+use Rattle.rows.specs.Result.Pieces.{result-short}
 use Rattle.rows.specs.Result.Calls.{writes-none, writes-all, writes-close}
 use borrow.Author.Needs.{needs}
 use Rattle.rows.proofs.write_result.Statement.{statement}
@@ -27,7 +27,7 @@ same-length : tie.Need-same-length
 same-length c = search needs
 
 returns-2 : tie.Need-returns-2
-returns-2 c = result (says-true (c .before .before .before .before .before .before .is-long .ensures) (not-false _ (c .before .before .before .before .before .if1 .left))) (writes-close (c .before .before .put-result .ensures) (c .before .before .before .before .if2 .taken) (result-close _ _ _ _ (says-true (c .before .before .before .before .before .before .is-long .ensures) (not-false _ (c .before .before .before .before .before .if1 .left)) .few)))
+returns-2 c = result (says-true (c .before .before .before .before .before .before .is-long .ensures) (not-false _ (c .before .before .before .before .before .if1 .left))) (writes-close (c .before .before .put-result .ensures) (c .before .before .before .before .if2 .taken) (result-short _ _ _ _ _))
 
 count-result-requires : tie.Need-count-result-requires
 count-result-requires c κs = says-true (c .before .before .is-long .ensures) (not-false _ (c .before .if1 .left))

@@ -7,7 +7,7 @@ use native.Mathlib.Numerals.{add-one}
 use native.Mathlib.Nat.{add-zero, pow-suc, pow-le-pow-right, mod-eq-of-lt, sub-zero}
 use native.Mathlib.Omega.{arith}
 use lib.ListN.{length, getD, take, drop, set, length-append}
-use lib.Seq.{sets, length-sets, set-out, take-all, take-suc, length-take-le}
+use lib.Seq.{sets, length-sets, set-out, take-all, take-suc}
 use lib.Dec.{lit<, ltb, eqb}
 use borrow.Author.Tests.{lt-ltb, le-ltb, ltb-true, ltb-false, eq-eqb, ne-eqb}
 use Rattle.truth.specs.Truth.Bools.{by-split}
@@ -233,9 +233,6 @@ listing-more {set} {count} {next} {p} {l} {m} {n} s h q =
       few = omega (arith, s .few, q .answer, members-few set p 1);
     }
 
-pub listing-end : {set count p : ℕ} {l m : List ℕ} → Listing set l count p m → 64 ≤ p → Puts (membersFrom set 0 64) l 0 count m
-listing-end {set} {count} {p} {l} {m} s h = let e : p ≡ 64 = omega (arith, s .high) in rw e at (s .so-far)
-
 -- The same, and what is left of the set after its lowest p permissions.
 pub record Halving (set : ℕ) (before : List ℕ) (count p rest : ℕ) (after : List ℕ) : Type 0 where
   pub listing : Listing set before count p after
@@ -308,17 +305,28 @@ listed set {r} {l} {m} h p =
 
 -- ---- how long a row is
 
-after-short : (ps : List ℕ) → length (afterFirst ps) ≤ length ps * 21
+pub short-decimal : (n : ℕ) → n < 100 → length (decimal n) ≤ 2
+short-decimal n h =
+    by-split (ltb n 10)
+    (λ t. rw (decimal-1 (ltb-true n 10 t)) (omega arith))
+    (λ t. rw (decimal-2 (ltb-false n 10 t) h) (omega arith))
+
+after-short : (set p count : ℕ) → p + count ≤ 64 → length (afterFirst (membersFrom set p count)) ≤ count * 3
+unfolding afterFirst membersFrom
+after-short set p zero h = omega arith
+after-short set p (suc count) h =
+    let i = after-short set (p + 1) count (omega arith) in
+    by-split (has set p)
+    (λ t. simp t (omega (arith, i, short-decimal p (omega arith), length-append (decimal p) (afterFirst (membersFrom set (p + 1) count)))))
+    (λ t. simp t (omega (arith, i)))
+
+spaced-after : (l : List ℕ) → length (spaced l) ≤ length (afterFirst l)
 unfolding afterFirst
-after-short [] = omega arith
-after-short (p ∷ ps) = omega (arith, length-append (decimal p) (afterFirst ps), decimal-short 20 p, after-short ps)
+spaced-after [] = omega arith
+spaced-after (p ∷ l) = omega arith
 
-spaced-short : (ps : List ℕ) → length (spaced ps) ≤ length ps * 21
-spaced-short [] = omega arith
-spaced-short (p ∷ ps) = omega (arith, length-append (decimal p) (afterFirst ps), decimal-short 20 p, after-short ps)
-
-pub set-short : (set : ℕ) → length (setBytes set) ≤ 1344
-set-short set = omega (arith, spaced-short (membersFrom set 0 64), members-few set 0 64)
+pub set-short : (set : ℕ) → length (setBytes set) ≤ 192
+set-short set = omega (arith, spaced-after (membersFrom set 0 64), after-short set 0 64 (omega arith))
 
 pub verdict-short : (kind check denied granted : ℕ) → length (verdictBytes kind check denied granted) ≤ 20
 verdict-short kind check denied granted = by-split (eqb kind 2) (λ t. simp t (decimal-short 20 _)) (λ t. simp t (omega arith))
@@ -329,7 +337,7 @@ verdict-none kind check denied granted h = simp (ne-eqb kind 2 h)
 pub verdict-some : (kind check denied granted : ℕ) → kind ≡ 2 → verdictBytes kind check denied granted ≡ decimal (verdictOf (has denied check) (has granted check))
 verdict-some kind check denied granted h = simp (eq-eqb kind 2 h)
 
-pub row-short : (node kind check denied granted : ℕ) → length (rowBytes node kind check denied granted) ≤ 2733
+pub row-short : (node kind check denied granted : ℕ) → length (rowBytes node kind check denied granted) ≤ 429
 row-short node kind check denied granted =
     let n = decimal node in
     let d : List ℕ = 44 ∷ setBytes denied in
@@ -344,58 +352,6 @@ row-short node kind check denied granted =
       decimal-short 20 node,
       set-short denied,
       set-short granted,
-      verdict-short kind check denied granted,
-    )
-
--- ---- how long a row is, closely
-
-pub short-decimal : (n : ℕ) → n < 100 → length (decimal n) ≤ 2
-short-decimal n h =
-    by-split (ltb n 10)
-    (λ t. rw (decimal-1 (ltb-true n 10 t)) (omega arith))
-    (λ t. rw (decimal-2 (ltb-false n 10 t) h) (omega arith))
-
-node-decimal : (n : ℕ) → n < 10000 → length (decimal n) ≤ 4
-node-decimal n h =
-    by-split (ltb n 100)
-    (λ t. omega (arith, short-decimal n (ltb-true n 100 t)))
-    (λ t.
-    let g : List ℕ = glyph (n / 10 % 10) ∷ [] in
-    let f : List ℕ = glyph (n % 10) ∷ [] in
-    rw (decimal-4 (ltb-false n 100 t) h) (omega (arith, length-append (decimal (n / 100) ++ g) f, length-append (decimal (n / 100)) g, short-decimal (n / 100) (omega arith))))
-
-after-close : (set p count : ℕ) → p + count ≤ 64 → length (afterFirst (membersFrom set p count)) ≤ count * 3
-unfolding afterFirst membersFrom
-after-close set p zero h = omega arith
-after-close set p (suc count) h =
-    let i = after-close set (p + 1) count (omega arith) in
-    by-split (has set p)
-    (λ t. simp t (omega (arith, i, short-decimal p (omega arith), length-append (decimal p) (afterFirst (membersFrom set (p + 1) count)))))
-    (λ t. simp t (omega (arith, i)))
-
-spaced-after : (l : List ℕ) → length (spaced l) ≤ length (afterFirst l)
-unfolding afterFirst
-spaced-after [] = omega arith
-spaced-after (p ∷ l) = omega arith
-
-set-close : (set : ℕ) → length (setBytes set) ≤ 192
-set-close set = omega (arith, spaced-after (membersFrom set 0 64), after-close set 0 64 (omega arith))
-
-row-close : (node kind check denied granted : ℕ) → node < 10000 → length (rowBytes node kind check denied granted) ≤ 413
-row-close node kind check denied granted h =
-    let n = decimal node in
-    let d : List ℕ = 44 ∷ setBytes denied in
-    let g : List ℕ = 44 ∷ setBytes granted in
-    let v : List ℕ = 44 ∷ verdictBytes kind check denied granted in
-    omega (
-      arith,
-      length-append (n ++ d ++ g ++ v) (13 ∷ 10 ∷ []),
-      length-append (n ++ d ++ g) v,
-      length-append (n ++ d) g,
-      length-append n d,
-      node-decimal node h,
-      set-close denied,
-      set-close granted,
       verdict-short kind check denied granted,
     )
 
@@ -416,7 +372,7 @@ module _ (kinds checks denied granted : List ℕ) where
   -- The rows of the nodes below i are written.
   pub record Rowing (before : List ℕ) (from next i : ℕ) (after : List ℕ) : Type 0 where
     pub so-far : Puts (rowsFrom kinds checks denied granted 0 i) before from next after
-    pub low : next ≤ from + i * 2733
+    pub low : next ≤ from + i * 429
 
   pub rowing-start : {l : List ℕ} {from : ℕ} → Rowing l from from 0 l
   unfolding rowsFrom
@@ -429,19 +385,19 @@ module _ (kinds checks denied granted : List ℕ) where
       ap (λ j. rowsFrom kinds checks denied granted 0 i ++ rowAt j) (sym z) ∙ rows-more 0 i ∙ ap (rowsFrom kinds checks denied granted 0) (sym (add-one i)) in
       record { so-far = puts-as e (puts-then (r .so-far) p); low = omega (arith, r .low, p .answer, row-short i (getD kinds i 0) (getD checks i 0) (getD denied i 0) (getD granted i 0)) }
 
-  rows-close : (i count : ℕ) → i + count ≤ 1024 → length (rowsFrom kinds checks denied granted i count) ≤ count * 413
+  rows-short : (i count : ℕ) → length (rowsFrom kinds checks denied granted i count) ≤ count * 429
   unfolding rowsFrom
-  rows-close i zero h = omega arith
-  rows-close i (suc count) h =
+  rows-short i zero = omega arith
+  rows-short i (suc count) =
       omega (
         arith,
         length-append (rowAt i) (rowsFrom kinds checks denied granted (i + 1) count),
-        row-close i (getD kinds i 0) (getD checks i 0) (getD denied i 0) (getD granted i 0) (omega arith),
-        rows-close (i + 1) count (omega arith),
+        row-short i (getD kinds i 0) (getD checks i 0) (getD denied i 0) (getD granted i 0),
+        rows-short (i + 1) count,
       )
 
-  pub result-close : {n : ℕ} → n ≤ 1024 → length (resultBytes n kinds checks denied granted) ≤ n * 413 + 29
-  result-close {n} h = omega (arith, length-append headerBytes (rowsFrom kinds checks denied granted 0 n), rows-close 0 n (omega arith))
+  pub result-short : (n : ℕ) → length (resultBytes n kinds checks denied granted) ≤ n * 429 + 29
+  result-short n = omega (arith, length-append headerBytes (rowsFrom kinds checks denied granted 0 n), rows-short 0 n)
 
   pub rowing-end : {l m : List ℕ} {from next i n : ℕ} → Rowing l from next i m → i ≡ n → Puts (rowsFrom kinds checks denied granted 0 n) l from next m
   rowing-end {l} {m} {from} {next} r e = subst (λ j. Puts (rowsFrom kinds checks denied granted 0 j) l from next m) e (r .so-far)

@@ -83,20 +83,20 @@ carriedBy kinds checks privileged grants froms tos ways y a s q e =
     edgeNum (getD ways e 0) (calledBy privileged grants s (getD froms e 0)) (movedBy kinds checks privileged grants y a s q (getD froms e 0)) (getD grants (getD tos e 0) 0)
 
 abbrev pub carried : Graph → System → (a s q : List ℕ) → ℕ → ℕ
-carried g = carriedBy (g .kinds) (g .checks) (g .privileged) (g .grants) (g .froms) (g .tos) (g .ways)
+carried g = carriedBy (g .nodes .kinds) (g .nodes .checks) (g .nodes .privileged) (g .nodes .grants) (g .edges .froms) (g .edges .tos) (g .edges .ways)
 
 abbrev pub fromOf : Graph → ℕ → ℕ
-fromOf g e = getD (g .froms) e 0
+fromOf g e = getD (g .edges .froms) e 0
 
 abbrev pub toOf : Graph → ℕ → ℕ
-toOf g e = getD (g .tos) e 0
+toOf g e = getD (g .edges .tos) e 0
 
 -- whether a set v that arrives at a node by edge e counts at the node's check
 abbrev pub countsBy : (kinds checks tos : List ℕ) → System → (w : List ℕ) (e v : ℕ) → Bool
 countsBy kinds checks tos y w e v = eqb (getD kinds (getD tos e 0) 0) 2 && has (judgedNum y (getD w e 0) v) (getD checks (getD tos e 0) 0)
 
 abbrev pub counts : Graph → System → (w : List ℕ) (e v : ℕ) → Bool
-counts g = countsBy (g .kinds) (g .checks) (g .tos)
+counts g = countsBy (g .nodes .kinds) (g .nodes .checks) (g .edges .tos)
 
 -- ---- the walk's steps
 
@@ -224,7 +224,7 @@ PastBelow g sure w z n p b =
 abbrev pub AnyPasses : Graph → System → (w a : List ℕ) → Type 0
 AnyPasses g may w a = Unit {0}
 AnyPasses g sure w a =
-    (n : ℕ) → n < g .n → isCheck g n ≡ true
+    (n : ℕ) → n < g .size .n → isCheck g n ≡ true
     → (has (getD a n 0) (check g n) ≡ true) ↔ ((x : Arrival) × Arrives g n x × (arriving g (held w) n x (check g n) ≡ true))
 
 -- the graph that a walk goes over is accepted, and for SURE what is known of MAY is true
@@ -234,23 +234,23 @@ pub record Setting (g : Graph) (y : System) (w a : List ℕ) : Type 0 where
 
 -- the sums hold what the entry marks give, and nothing that closed out sets would not
 pub record Good (g : Graph) (y : System) (w s q : List ℕ) : Type 0 where
-  pub s-low : (n : ℕ) → n < g .n → getD s n 0 < 2 ^ g .k
-  pub q-low : (n : ℕ) → n < g .n → getD q n 0 < 2 ^ g .k
-  pub s-entry : (n p : ℕ) → n < g .n → p < g .k → getD (g .entries) n 0 ≡ 1 → Toward y (has (getD (g .grants) n 0) p) (has (getD s n 0) p)
-  pub q-entry : (n p : ℕ) → n < g .n → p < g .k → getD (g .entries) n 0 ≡ 1 → has (getD (g .grants) n 0) (getD (g .checks) n 0) ≡ true
-      → Toward y (has (getD (g .grants) n 0) p) (has (getD q n 0) p)
-  pub s-below : (z : Outs) → Closed g y w z → (n p : ℕ) → n < g .n → p < g .k → Toward y (has (getD s n 0) p) (inSet g y z n p)
-  pub q-below : (z : Outs) → Closed g y w z → (n p : ℕ) → n < g .n → p < g .k → PastBelow g y w z n p (has (getD q n 0) p)
+  pub s-low : (n : ℕ) → n < g .size .n → getD s n 0 < 2 ^ g .size .k
+  pub q-low : (n : ℕ) → n < g .size .n → getD q n 0 < 2 ^ g .size .k
+  pub s-entry : (n p : ℕ) → n < g .size .n → p < g .size .k → getD (g .nodes .entries) n 0 ≡ 1 → Toward y (has (getD (g .nodes .grants) n 0) p) (has (getD s n 0) p)
+  pub q-entry : (n p : ℕ) → n < g .size .n → p < g .size .k → getD (g .nodes .entries) n 0 ≡ 1 → has (getD (g .nodes .grants) n 0) (getD (g .nodes .checks) n 0) ≡ true
+      → Toward y (has (getD (g .nodes .grants) n 0) p) (has (getD q n 0) p)
+  pub s-below : (z : Outs) → Closed g y w z → (n p : ℕ) → n < g .size .n → p < g .size .k → Toward y (has (getD s n 0) p) (inSet g y z n p)
+  pub q-below : (z : Outs) → Closed g y w z → (n p : ℕ) → n < g .size .n → p < g .size .k → PastBelow g y w z n p (has (getD q n 0) p)
 
 -- edge e has nothing to tell its to node
 pub record Quiet (g : Graph) (y : System) (w a s q : List ℕ) (e : ℕ) : Type 0 where
-  pub told : (p : ℕ) → p < g .k → Toward y (has (carried g y a s q e) p) (has (getD s (toOf g e) 0) p)
-  pub told-past : counts g y w e (carried g y a s q e) ≡ true → (p : ℕ) → p < g .k → Toward y (has (carried g y a s q e) p) (has (getD q (toOf g e) 0) p)
+  pub told : (p : ℕ) → p < g .size .k → Toward y (has (carried g y a s q e) p) (has (getD s (toOf g e) 0) p)
+  pub told-past : counts g y w e (carried g y a s q e) ≡ true → (p : ℕ) → p < g .size .k → Toward y (has (carried g y a s q e) p) (has (getD q (toOf g e) 0) p)
 
 -- every edge is quiet but those that leave a node which is marked in d
 pub record Pending (g : Graph) (y : System) (w a s q d : List ℕ) : Type 0 where
   pub good : Good g y w s q
-  pub quiet : (e : ℕ) → e < g .m → getD d (fromOf g e) 0 ≡ 0 → Quiet g y w a s q e
+  pub quiet : (e : ℕ) → e < g .size .m → getD d (fromOf g e) 0 ≡ 0 → Quiet g y w a s q e
 
 -- ---- the stack
 
@@ -288,14 +288,14 @@ pub record Sized (n : ℕ) (x : State) : Type 0 where
 
 pub record Walking (g : Graph) (y : System) (w a : List ℕ) (x : State) : Type 0 where
   pub pending : Pending g y w a (x .ins) (x .past) (x .marks)
-  pub stacked : Stacked (g .n) (x .marks) (x .stack) (x .top)
-  pub sized : Sized (g .n) x
+  pub stacked : Stacked (g .size .n) (x .marks) (x .stack) (x .top)
+  pub sized : Sized (g .size .n) x
 
 -- x₀ is the state in which n was taken up: while n is not marked again its sums are what they were
 pub record Sending (g : Graph) (y : System) (w a : List ℕ) (x₀ x : State) (n cur : ℕ) : Type 0 where
   pub good : Good g y w (x .ins) (x .past)
-  pub quiet : (e : ℕ) → e < g .m → getD (x .marks) (fromOf g e) 0 ≡ 0 → (fromOf g e ≡ n → cur ≤ e) → Quiet g y w a (x .ins) (x .past) e
+  pub quiet : (e : ℕ) → e < g .size .m → getD (x .marks) (fromOf g e) 0 ≡ 0 → (fromOf g e ≡ n → cur ≤ e) → Quiet g y w a (x .ins) (x .past) e
   pub own : getD (x .marks) n 0 ≡ 0 → (getD (x .ins) n 0 ≡ getD (x₀ .ins) n 0) × (getD (x .past) n 0 ≡ getD (x₀ .past) n 0)
-  pub stacked : Stacked (g .n) (x .marks) (x .stack) (x .top)
-  pub sized : Sized (g .n) x
+  pub stacked : Stacked (g .size .n) (x .marks) (x .stack) (x .top)
+  pub sized : Sized (g .size .n) x
   pub falls : toDo y x ≤ toDo y x₀

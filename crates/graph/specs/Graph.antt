@@ -21,67 +21,107 @@ use lib.Dec.{eqb}
 use lib.ListN.{length, getD}
 use Rattle.truth.specs.Truth.{All, _⇒_, some, every}
 use Rattle.sets.specs.Sets.{has}
+use Rattle.graph.specs.declared.Size.{Size}
 
 -- ---- The graph
 
+-- One thing for each slice of nodes, and one for each slice of edges: lists, lengths, or the numbers of one node or edge. A slice more is a
+-- field more here, and a line more in each of the definitions up to `EachEdge`.
+pub record PerNode (A : Type 0) : Type 0 where
+  pub kinds : A
+  pub checks : A
+  pub privileged : A
+  pub entries : A
+  pub grants : A
+
+pub record PerEdge (A : Type 0) : Type 0 where
+  pub froms : A
+  pub tos : A
+  pub ways : A
+
+abbrev pub nodesOf : {A : Type 0} → (kinds checks privileged entries grants : A) → PerNode A
+nodesOf kinds checks privileged entries grants = record { kinds = kinds; checks = checks; privileged = privileged; entries = entries; grants = grants }
+
+abbrev pub edgesOf : {A : Type 0} → (froms tos ways : A) → PerEdge A
+edgesOf froms tos ways = record { froms = froms; tos = tos; ways = ways }
+
+abbrev pub mapNode : {A B : Type 0} → (A → B) → PerNode A → PerNode B
+mapNode f x = nodesOf (f (x .kinds)) (f (x .checks)) (f (x .privileged)) (f (x .entries)) (f (x .grants))
+
+abbrev pub mapEdge : {A B : Type 0} → (A → B) → PerEdge A → PerEdge B
+mapEdge f x = edgesOf (f (x .froms)) (f (x .tos)) (f (x .ways))
+
+-- P holds of each.
+pub record EachNode {A : Type 0} (P : A → Type 0) (x : PerNode A) : Type 0 where
+  pub kinds : P (x .kinds)
+  pub checks : P (x .checks)
+  pub privileged : P (x .privileged)
+  pub entries : P (x .entries)
+  pub grants : P (x .grants)
+
+pub record EachEdge {A : Type 0} (P : A → Type 0) (x : PerEdge A) : Type 0 where
+  pub froms : P (x .froms)
+  pub tos : P (x .tos)
+  pub ways : P (x .ways)
+
+abbrev pub everyNode : PerNode Bool → Bool
+everyNode x = x .kinds && (x .checks && (x .privileged && (x .entries && x .grants)))
+
+abbrev pub everyEdge : PerEdge Bool → Bool
+everyEdge x = x .froms && (x .tos && x .ways)
+
+abbrev pub sizeOf : (k n m : ℕ) → Size
+sizeOf k n m = record { k = k; n = n; m = m }
+
 -- What a caller lends: K, N and M, and each slice as a list.
 pub record Graph : Type 0 where
-  pub k : ℕ
-  pub n : ℕ
-  pub m : ℕ
-  pub kinds : List ℕ
-  pub checks : List ℕ
-  pub privileged : List ℕ
-  pub entries : List ℕ
-  pub grants : List ℕ
-  pub froms : List ℕ
-  pub tos : List ℕ
-  pub ways : List ℕ
+  pub size : Size
+  pub nodes : PerNode (List ℕ)
+  pub edges : PerEdge (List ℕ)
 
-abbrev pub graphOf : (k n m : ℕ) (kinds checks privileged entries grants froms tos ways : List ℕ) → Graph
-graphOf k n m kinds checks privileged entries grants froms tos ways = record {
-  k = k;
-  n = n;
-  m = m;
-  kinds = kinds;
-  checks = checks;
-  privileged = privileged;
-  entries = entries;
-  grants = grants;
-  froms = froms;
-  tos = tos;
-  ways = ways;
+abbrev pub graphOf : Size → (kinds checks privileged entries grants froms tos ways : List ℕ) → Graph
+graphOf size kinds checks privileged entries grants froms tos ways = record {
+  size = size;
+  nodes = nodesOf kinds checks privileged entries grants;
+  edges = edgesOf froms tos ways;
 }
+
+-- The numbers of node i, and of edge i.
+abbrev pub nodeAt : PerNode (List ℕ) → ℕ → PerNode ℕ
+nodeAt x i = mapNode (λ l. getD l i 0) x
+
+abbrev pub edgeAt : PerEdge (List ℕ) → ℕ → PerEdge ℕ
+edgeAt x i = mapEdge (λ l. getD l i 0) x
 
 -- Node n: its kind (0 call, 1 return, 2 check), its check permission, its marks, and whether it grants permission p.
 pub kind : Graph → ℕ → ℕ
-kind g n = getD (g .kinds) n 0
+kind g n = getD (g .nodes .kinds) n 0
 
 pub isCheck : Graph → ℕ → Bool
 isCheck g n = eqb (kind g n) 2
 
 pub check : Graph → ℕ → ℕ
-check g n = getD (g .checks) n 0
+check g n = getD (g .nodes .checks) n 0
 
 -- n is privileged for p: in this edition for every p, where n has the mark
 pub privileged : Graph → ℕ → ℕ → Bool
-privileged g n p = eqb (getD (g .privileged) n 0) 1
+privileged g n p = eqb (getD (g .nodes .privileged) n 0) 1
 
 pub entry : Graph → ℕ → Bool
-entry g n = eqb (getD (g .entries) n 0) 1
+entry g n = eqb (getD (g .nodes .entries) n 0) 1
 
 pub grants : Graph → ℕ → ℕ → Bool
-grants g n p = has (getD (g .grants) n 0) p
+grants g n p = has (getD (g .nodes .grants) n 0) p
 
 -- Edge e: its from node, its to node, its kind (0 call, 1 transfer).
 pub from : Graph → ℕ → ℕ
-from g e = getD (g .froms) e 0
+from g e = getD (g .edges .froms) e 0
 
 pub to : Graph → ℕ → ℕ
-to g e = getD (g .tos) e 0
+to g e = getD (g .edges .tos) e 0
 
 pub way : Graph → ℕ → ℕ
-way g e = getD (g .ways) e 0
+way g e = getD (g .edges .ways) e 0
 
 pub isCall : Graph → ℕ → Bool
 isCall g e = eqb (way g e) 0
@@ -89,13 +129,13 @@ isCall g e = eqb (way g e) 0
 -- ---- The rules
 
 -- The rule of a node, by its numbers.
-pub record NodeRule (k kind check privileged entry grants : ℕ) : Type 0 where
-  pub kind-known : kind ≤ 2
-  pub check-below : kind ≡ 2 → check < k
-  pub check-none : (kind ≡ 2 → ⊥) → check ≡ 0
-  pub privileged-mark : privileged ≤ 1
-  pub entry-mark : entry ≤ 1
-  pub grants-below : (p : ℕ) → has grants p ≡ true → p < k
+pub record NodeRule (k : ℕ) (x : PerNode ℕ) : Type 0 where
+  pub kind-known : x .kinds ≤ 2
+  pub check-below : x .kinds ≡ 2 → x .checks < k
+  pub check-none : (x .kinds ≡ 2 → ⊥) → x .checks ≡ 0
+  pub privileged-mark : x .privileged ≤ 1
+  pub entry-mark : x .entries ≤ 1
+  pub grants-below : (p : ℕ) → has (x .grants) p ≡ true → p < k
 
 -- The rule of an edge's kind, by the kind of the node that it leaves and the grants of its two ends. Nothing leaves a return node.
 pub record EndsRule (way leaves out into : ℕ) : Type 0 where
@@ -104,58 +144,48 @@ pub record EndsRule (way leaves out into : ℕ) : Type 0 where
   pub transfer-leaves : way ≡ 1 → (leaves ≡ 0) ⊎ (leaves ≡ 2)
   pub transfer-grants : way ≡ 1 → out ≡ into
 
--- The rule of an edge, by its numbers.
-pub record EdgeRule (n from to way leaves out into : ℕ) : Type 0 where
-  pub from-node : from < n
-  pub to-node : to < n
-  pub ends : EndsRule way leaves out into
+-- The rule of an edge, by its numbers and those of the nodes at its two ends.
+pub record EdgeRule (n : ℕ) (x : PerEdge ℕ) (leaves out into : ℕ) : Type 0 where
+  pub from-node : x .froms < n
+  pub to-node : x .tos < n
+  pub ends : EndsRule (x .ways) leaves out into
+
+abbrev pub EdgeAt : (n : ℕ) (kinds grants : List ℕ) → PerEdge (List ℕ) → ℕ → Type 0
+EdgeAt n kinds grants x e =
+    EdgeRule n (edgeAt x e) (getD kinds (getD (x .froms) e 0) 0) (getD grants (getD (x .froms) e 0) 0) (getD grants (getD (x .tos) e 0) 0)
 
 -- Node i, and edge e, of the lent lists obey their rules.
-abbrev pub NodeAt : (k : ℕ) (kinds checks privileged entries grants : List ℕ) → ℕ → Type 0
-NodeAt k kinds checks privileged entries grants i =
-    NodeRule k (getD kinds i 0) (getD checks i 0) (getD privileged i 0) (getD entries i 0) (getD grants i 0)
-
-abbrev pub EdgeAt : (n : ℕ) (kinds grants froms tos ways : List ℕ) → ℕ → Type 0
-EdgeAt n kinds grants froms tos ways e =
-    EdgeRule n (getD froms e 0) (getD tos e 0) (getD ways e 0)
-    (getD kinds (getD froms e 0) 0) (getD grants (getD froms e 0) 0) (getD grants (getD tos e 0) 0)
+abbrev pub NodesAt : ℕ → PerNode (List ℕ) → ℕ → Type 0
+NodesAt k x i = NodeRule k (nodeAt x i)
 
 abbrev pub NodeObeys : Graph → ℕ → Type 0
-NodeObeys g = NodeAt (g .k) (g .kinds) (g .checks) (g .privileged) (g .entries) (g .grants)
+NodeObeys g = NodesAt (g .size .k) (g .nodes)
 
 abbrev pub EdgeObeys : Graph → ℕ → Type 0
-EdgeObeys g = EdgeAt (g .n) (g .kinds) (g .grants) (g .froms) (g .tos) (g .ways)
+EdgeObeys g = EdgeAt (g .size .n) (g .nodes .kinds) (g .nodes .grants) (g .edges)
 
 -- K, N and M in range.
-pub record Ranges (k n m : ℕ) : Type 0 where
-  pub k-low : 1 ≤ k
-  pub k-high : k ≤ 64
-  pub n-low : 1 ≤ n
-  pub n-high : n ≤ 1024
-  pub m-high : m ≤ 4096
+pub record Ranges (s : Size) : Type 0 where
+  pub k-low : 1 ≤ s .k
+  pub k-high : s .k ≤ 64
+  pub n-low : 1 ≤ s .n
+  pub n-high : s .n ≤ 1024
+  pub m-high : s .m ≤ 4096
 
 -- Every slice as long as it has to be, by their lengths: N entries for a node's, M for an edge's.
-pub record NodesLong (n kinds checks privileged entries grants : ℕ) : Type 0 where
-  pub kinds-long : kinds ≡ n
-  pub checks-long : checks ≡ n
-  pub privileged-long : privileged ≡ n
-  pub entries-long : entries ≡ n
-  pub grants-long : grants ≡ n
+abbrev pub NodesLong : ℕ → PerNode ℕ → Type 0
+NodesLong n = EachNode (λ l. l ≡ n)
 
-pub record EdgesLong (m froms tos ways : ℕ) : Type 0 where
-  pub froms-long : froms ≡ m
-  pub tos-long : tos ≡ m
-  pub ways-long : ways ≡ m
+abbrev pub EdgesLong : ℕ → PerEdge ℕ → Type 0
+EdgesLong m = EachEdge (λ l. l ≡ m)
 
-pub record ShapeRule (k n m kinds checks privileged entries grants froms tos ways : ℕ) : Type 0 where
-  pub ranges : Ranges k n m
-  pub nodes : NodesLong n kinds checks privileged entries grants
-  pub edges : EdgesLong m froms tos ways
+pub record ShapeRule (s : Size) (x : PerNode ℕ) (y : PerEdge ℕ) : Type 0 where
+  pub ranges : Ranges s
+  pub nodes : NodesLong (s .n) x
+  pub edges : EdgesLong (s .m) y
 
 abbrev pub Shape : Graph → Type 0
-Shape g =
-    ShapeRule (g .k) (g .n) (g .m) (length (g .kinds)) (length (g .checks)) (length (g .privileged)) (length (g .entries)) (length (g .grants))
-    (length (g .froms)) (length (g .tos)) (length (g .ways))
+Shape g = ShapeRule (g .size) (mapNode length (g .nodes)) (mapEdge length (g .edges))
 
 -- Node i is no entry.
 abbrev pub NoEntry : List ℕ → ℕ → Type 0
@@ -164,9 +194,9 @@ NoEntry entries i = getD entries i 0 ≡ 1 → ⊥
 -- A graph that is accepted: it has its shape, every node and every edge obeys its rule, and some node is an entry.
 pub record Acceptable (g : Graph) : Type 0 where
   pub shape : Shape g
-  pub nodes : All (NodeObeys g) (g .n)
-  pub edges : All (EdgeObeys g) (g .m)
-  pub entered : (i : ℕ) × (i < g .n) × (getD (g .entries) i 0 ≡ 1)
+  pub nodes : All (NodeObeys g) (g .size .n)
+  pub edges : All (EdgeObeys g) (g .size .m)
+  pub entered : (i : ℕ) × (i < g .size .n) × (getD (g .nodes .entries) i 0 ≡ 1)
 
 -- ---- The equations
 
@@ -194,10 +224,10 @@ arriving g x n mark p = grants g n p
 arriving g x n (edge e) p = x e p
 
 pub someArrival : Graph → ℕ → (Arrival → Bool) → Bool
-someArrival g n f = (entry g n && f mark) || some (g .m) (λ e. eqb (to g e) n && f (edge e))
+someArrival g n f = (entry g n && f mark) || some (g .size .m) (λ e. eqb (to g e) n && f (edge e))
 
 pub everyArrival : Graph → ℕ → (Arrival → Bool) → Bool
-everyArrival g n f = (entry g n ⇒ f mark) && every (g .m) (λ e. eqb (to g e) n ⇒ f (edge e))
+everyArrival g n f = (entry g n ⇒ f mark) && every (g .size .m) (λ e. eqb (to g e) n ⇒ f (edge e))
 
 -- In what follows w are the MAY out sets, and x the out sets of the system at hand: for MAY, w itself. Each says whether permission p is
 -- in the set of node n or edge e.
@@ -234,10 +264,10 @@ outSet g w y x e p =
 -- ---- The solutions, over every edge below M and every permission below K
 
 abbrev pub Within : Graph → Outs → Outs → Type 0
-Within g x y = (e p : ℕ) → e < g .m → p < g .k → x e p ≡ true → y e p ≡ true
+Within g x y = (e p : ℕ) → e < g .size .m → p < g .size .k → x e p ≡ true → y e p ≡ true
 
 abbrev pub Same : Graph → Outs → Outs → Type 0
-Same g x y = (e p : ℕ) → e < g .m → p < g .k → x e p ≡ y e p
+Same g x y = (e p : ℕ) → e < g .size .m → p < g .size .k → x e p ≡ y e p
 
 -- m obeys the MAY equations; s obeys the SURE equations, with the MAY out sets m.
 abbrev pub MaySolution : Graph → Outs → Type 0
@@ -292,11 +322,11 @@ pub record Stored (k n : ℕ) (l : List ℕ) : Type 0 where
 
 -- What the slices hold when an accepted graph is solved.
 pub record Content (g : Graph) (s : Slices) : Type 0 where
-  pub denied-stored : Stored (g .k) (g .n) (s .denied)
-  pub granted-stored : Stored (g .k) (g .n) (s .granted)
-  pub may-stored : Stored (g .k) (g .m) (s .mayOut)
-  pub sure-stored : Stored (g .k) (g .m) (s .sureOut)
+  pub denied-stored : Stored (g .size .k) (g .size .n) (s .denied)
+  pub granted-stored : Stored (g .size .k) (g .size .n) (s .granted)
+  pub may-stored : Stored (g .size .k) (g .size .m) (s .mayOut)
+  pub sure-stored : Stored (g .size .k) (g .size .m) (s .sureOut)
   pub least : LeastMay g (held (s .mayOut))
   pub greatest : GreatestSure g (held (s .mayOut)) (held (s .sureOut))
-  pub denies : (n p : ℕ) → n < g .n → p < g .k → has (getD (s .denied) n 0) p ≡ deniedSet g (held (s .mayOut)) n p
-  pub grants : (n p : ℕ) → n < g .n → p < g .k → has (getD (s .granted) n 0) p ≡ grantedSet g (held (s .sureOut)) n p
+  pub denies : (n p : ℕ) → n < g .size .n → p < g .size .k → has (getD (s .denied) n 0) p ≡ deniedSet g (held (s .mayOut)) n p
+  pub grants : (n p : ℕ) → n < g .size .n → p < g .size .k → has (getD (s .granted) n 0) p ≡ grantedSet g (held (s .sureOut)) n p

@@ -4,7 +4,7 @@ ghost use mathlib.Core.Path.{_≡_};
 ghost use Prim.Native.Nat.{_<_};
 ghost use lib.ListN.{length};
 ghost use Rattle.truth.specs.Truth.{Says, First};
-ghost use Rattle.graph.specs.Graph.{graphOf, NodeRule, EndsRule, NodeAt, EdgeAt, NoEntry, Ranges, NodesLong, EdgesLong, ShapeRule};
+ghost use Rattle.graph.specs.Graph.{graphOf, nodesOf, edgesOf, NodeRule, EndsRule, NodesAt, EdgeAt, NoEntry, Ranges, NodesLong, EdgesLong, ShapeRule};
 ghost use Rattle.graph.specs.Refusals.{numbered};
 ghost use Rattle.graph.specs.Judge.{Judges};
 
@@ -65,6 +65,21 @@ impl Refusal {
     }
 }
 
+// The kinds of an edge, by number.
+pub const CALL: u8 = 0;
+
+pub const TRANSFER: u8 = 1;
+
+// The kinds of a node, by number.
+pub const KIND_CHECK: u8 = 2;
+
+// How many permissions, nodes and edges there are.
+pub struct Size {
+    pub k: usize,
+    pub n: usize,
+    pub m: usize,
+}
+
 pub enum Judged {
     Accepted,
     Refused(Refusal),
@@ -73,14 +88,14 @@ pub enum Judged {
 fn check_obeys(k: usize, kind: u8, check: u16) -> bool
     ensures { λ r. ⌜ Says ((kind ≡ 2 → check < k) × ((kind ≡ 2 → ⊥) → check ≡ 0)) r ⌝ }
 {
-    if kind == 2 {
+    if kind == KIND_CHECK {
         return (check as usize) < k;
     }
     check == 0
 }
 
 fn node_obeys(k: usize, kind: u8, check: u16, privileged: u8, entry: u8, grants: u64) -> bool
-    ensures { λ r. ⌜ Says (NodeRule k kind check privileged entry grants) r ⌝ }
+    ensures { λ r. ⌜ Says (NodeRule k (nodesOf kind check privileged entry grants)) r ⌝ }
 {
     if 2 < kind {
         return false;
@@ -107,8 +122,8 @@ fn first_bad_node(
     entries: &[u8],
     grants: &[u64],
 ) -> usize
-    requires { ⌜ NodesLong n (length (now kinds)) (length (now checks)) (length (now privileged)) (length (now entries)) (length (now grants)) ⌝ }
-    ensures { λ r. ⌜ First (NodeAt k (now (kinds .entry)) (now (checks .entry)) (now (privileged .entry)) (now (entries .entry)) (now (grants .entry))) n r ⌝ }
+    requires { ⌜ NodesLong n (nodesOf (length (now kinds)) (length (now checks)) (length (now privileged)) (length (now entries)) (length (now grants))) ⌝ }
+    ensures { λ r. ⌜ First (NodesAt k (nodesOf (now (kinds .entry)) (now (checks .entry)) (now (privileged .entry)) (now (entries .entry)) (now (grants .entry)))) n r ⌝ }
 {
     let mut i = 0;
     while i < n {
@@ -123,10 +138,10 @@ fn first_bad_node(
 fn ends_obey(way: u8, leaves: u8, out: u64, into: u64) -> bool
     ensures { λ r. ⌜ Says (EndsRule way leaves out into) r ⌝ }
 {
-    if way == 0 {
+    if way == CALL {
         return leaves == 0;
     }
-    if way != 1 {
+    if way != TRANSFER {
         return false;
     }
     if leaves == 0 {
@@ -148,9 +163,9 @@ fn edge_obeys(
     e: usize,
 ) -> bool
     requires { ⌜ (length (now kinds) ≡ n) × (length (now grants) ≡ n) ⌝ }
-    requires { ⌜ EdgesLong (length (now froms)) (length (now froms)) (length (now tos)) (length (now ways)) ⌝ }
+    requires { ⌜ EdgesLong (length (now froms)) (edgesOf (length (now froms)) (length (now tos)) (length (now ways))) ⌝ }
     requires { ⌜ e < length (now froms) ⌝ }
-    ensures { λ r. ⌜ Says (EdgeAt n (now (kinds .entry)) (now (grants .entry)) (now (froms .entry)) (now (tos .entry)) (now (ways .entry)) e) r ⌝ }
+    ensures { λ r. ⌜ Says (EdgeAt n (now (kinds .entry)) (now (grants .entry)) (edgesOf (now (froms .entry)) (now (tos .entry)) (now (ways .entry))) e) r ⌝ }
 {
     let from = froms[e] as usize;
     let to = tos[e] as usize;
@@ -174,8 +189,8 @@ fn first_bad_edge(
     ways: &[u8],
 ) -> usize
     requires { ⌜ (length (now kinds) ≡ n) × (length (now grants) ≡ n) ⌝ }
-    requires { ⌜ EdgesLong m (length (now froms)) (length (now tos)) (length (now ways)) ⌝ }
-    ensures { λ r. ⌜ First (EdgeAt n (now (kinds .entry)) (now (grants .entry)) (now (froms .entry)) (now (tos .entry)) (now (ways .entry))) m r ⌝ }
+    requires { ⌜ EdgesLong m (edgesOf (length (now froms)) (length (now tos)) (length (now ways))) ⌝ }
+    ensures { λ r. ⌜ First (EdgeAt n (now (kinds .entry)) (now (grants .entry)) (edgesOf (now (froms .entry)) (now (tos .entry)) (now (ways .entry)))) m r ⌝ }
 {
     let mut e = 0;
     while e < m {
@@ -203,22 +218,22 @@ fn first_entry(n: usize, entries: &[u8]) -> usize
 }
 
 // Whether K, N and M are in range.
-pub fn in_range(k: usize, n: usize, m: usize) -> bool
-    ensures { λ r. ⌜ Says (Ranges k n m) r ⌝ }
+pub fn in_range(size: Size) -> bool
+    ensures { λ r. ⌜ Says (Ranges size) r ⌝ }
 {
-    if k < 1 {
+    if size.k < 1 {
         return false;
     }
-    if Set::LIMIT < k {
+    if Set::LIMIT < size.k {
         return false;
     }
-    if n < 1 {
+    if size.n < 1 {
         return false;
     }
-    if 1024 < n {
+    if 1024 < size.n {
         return false;
     }
-    m <= 4096
+    size.m <= 4096
 }
 
 // By the lengths of a node's slices.
@@ -230,7 +245,7 @@ pub fn nodes_long(
     entries: usize,
     grants: usize,
 ) -> bool
-    ensures { λ r. ⌜ Says (NodesLong n kinds checks privileged entries grants) r ⌝ }
+    ensures { λ r. ⌜ Says (NodesLong n (nodesOf kinds checks privileged entries grants)) r ⌝ }
 {
     if kinds != n {
         return false;
@@ -249,7 +264,7 @@ pub fn nodes_long(
 
 // By the lengths of an edge's slices.
 pub fn edges_long(m: usize, froms: usize, tos: usize, ways: usize) -> bool
-    ensures { λ r. ⌜ Says (EdgesLong m froms tos ways) r ⌝ }
+    ensures { λ r. ⌜ Says (EdgesLong m (edgesOf froms tos ways)) r ⌝ }
 {
     if froms != m {
         return false;
@@ -261,9 +276,7 @@ pub fn edges_long(m: usize, froms: usize, tos: usize, ways: usize) -> bool
 }
 
 fn has_shape(
-    k: usize,
-    n: usize,
-    m: usize,
+    size: Size,
     kinds: usize,
     checks: usize,
     privileged: usize,
@@ -273,22 +286,20 @@ fn has_shape(
     tos: usize,
     ways: usize,
 ) -> bool
-    ensures { λ r. ⌜ Says (ShapeRule k n m kinds checks privileged entries grants froms tos ways) r ⌝ }
+    ensures { λ r. ⌜ Says (ShapeRule size (nodesOf kinds checks privileged entries grants) (edgesOf froms tos ways)) r ⌝ }
 {
-    if !in_range(k, n, m) {
+    if !in_range(size) {
         return false;
     }
-    if !nodes_long(n, kinds, checks, privileged, entries, grants) {
+    if !nodes_long(size.n, kinds, checks, privileged, entries, grants) {
         return false;
     }
-    edges_long(m, froms, tos, ways)
+    edges_long(size.m, froms, tos, ways)
 }
 
 // Whether the lent slices are a graph, or the lowest refusal that applies.
 pub fn check(
-    k: usize,
-    n: usize,
-    m: usize,
+    size: Size,
     kinds: &[u8],
     checks: &[u16],
     privileged: &[u8],
@@ -298,12 +309,12 @@ pub fn check(
     tos: &[u16],
     ways: &[u8],
 ) -> Judged
-    ensures { λ r. ⌜ Judges (graphOf k n m (now (kinds .entry)) (now (checks .entry)) (now (privileged .entry)) (now (entries .entry)) (now (grants .entry)) (now (froms .entry)) (now (tos .entry)) (now (ways .entry))) r ⌝ }
+    ensures { λ r. ⌜ Judges (graphOf size (now (kinds .entry)) (now (checks .entry)) (now (privileged .entry)) (now (entries .entry)) (now (grants .entry)) (now (froms .entry)) (now (tos .entry)) (now (ways .entry))) r ⌝ }
 {
+    let n = size.n;
+    let m = size.m;
     if !has_shape(
-        k,
-        n,
-        m,
+        size,
         kinds.len(),
         checks.len(),
         privileged.len(),
@@ -315,7 +326,7 @@ pub fn check(
     ) {
         return Judged::Refused(Refusal::Shape);
     }
-    let i = first_bad_node(k, n, kinds, checks, privileged, entries, grants);
+    let i = first_bad_node(size.k, n, kinds, checks, privileged, entries, grants);
     if i < n {
         return Judged::Refused(Refusal::Node(i));
     }

@@ -12,7 +12,7 @@ use mathlib.Core.List.{List, [], _∷_}
 use mathlib.Core.Bool.{Bool, true, false, cond}
 use lib.ListN.{getD}
 use Rattle.sets.specs.Sets.{has}
-use Rattle.graph.specs.Graph.{Graph, kind, isCheck, check, privileged, entry, grants, from, to, isCall}
+use Rattle.graph.specs.Graph.{Graph, kind, isCheck, check, privileged, entry, grants, from, to, way}
 
 -- The stack that the lowest h places of a slice hold, bottom first there.
 pub stackOf : List ℕ → ℕ → List ℕ
@@ -52,19 +52,19 @@ quick denied granted p (n ∷ r) =
 
 -- ---- The steps
 
--- An edge of a kind leads from node m to node n: a call edge where call is true, else a transfer edge.
-pub record Leads (g : Graph) (call : Bool) (m n : ℕ) : Type 0 where
+-- An edge of a kind (0 call, 1 transfer) leads from node m to node n.
+pub record Leads (g : Graph) (sort m n : ℕ) : Type 0 where
   pub number : ℕ
-  pub low : number < g .m
-  pub kindred : isCall g number ≡ call
+  pub low : number < g .size .m
+  pub kindred : way g number ≡ sort
   pub starts : from g number ≡ m
   pub ends : to g number ≡ n
 
 pub data Step (g : Graph) : List ℕ → List ℕ → Type 0 where
-  enter : {n : ℕ} → n < g .n → entry g n ≡ true → Step g [] (n ∷ [])
-  call : {n t : ℕ} {r : List ℕ} → kind g n ≡ 0 → Leads g true n t → Step g (n ∷ r) (t ∷ n ∷ r)
-  pass : {n t : ℕ} {r : List ℕ} → isCheck g n ≡ true → full g (check g n) (n ∷ r) .passes ≡ true → Leads g false n t → Step g (n ∷ r) (t ∷ r)
-  back : {u n t : ℕ} {r : List ℕ} → kind g u ≡ 1 → Leads g false n t → Step g (u ∷ n ∷ r) (t ∷ r)
+  enter : {n : ℕ} → n < g .size .n → entry g n ≡ true → Step g [] (n ∷ [])
+  call : {n t : ℕ} {r : List ℕ} → kind g n ≡ 0 → Leads g 0 n t → Step g (n ∷ r) (t ∷ n ∷ r)
+  pass : {n t : ℕ} {r : List ℕ} → isCheck g n ≡ true → full g (check g n) (n ∷ r) .passes ≡ true → Leads g 1 n t → Step g (n ∷ r) (t ∷ r)
+  back : {u n t : ℕ} {r : List ℕ} → kind g u ≡ 1 → Leads g 1 n t → Step g (u ∷ n ∷ r) (t ∷ r)
 
 -- A stack is reachable if such steps lead to it from the empty stack.
 pub data Reachable (g : Graph) : List ℕ → Type 0 where

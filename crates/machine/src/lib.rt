@@ -1,6 +1,7 @@
 // The inspections of a stack.
 use graph::Judged;
 use graph::Refusal;
+use graph::Size;
 use sets::Set;
 ghost use mathlib.Core.Path.{_≡_};
 ghost use Prim.Native.Nat.{_<_, _≤_};
@@ -113,9 +114,7 @@ fn look_quick(denied: &[u64], granted: &[u64], stack: &[u16], height: usize, p: 
 
 // Whether full inspection of the stack passes the permission.
 pub fn full(
-    k: usize,
-    n: usize,
-    m: usize,
+    size: Size,
     kinds: &[u8],
     checks: &[u16],
     privileged: &[u8],
@@ -128,12 +127,12 @@ pub fn full(
     height: usize,
     p: usize,
 ) -> Inspection
-    ensures { λ r. ⌜ FullAnswers (graphOf k n m (now (kinds .entry)) (now (checks .entry)) (now (privileged .entry)) (now (entries .entry)) (now (grants .entry)) (now (froms .entry)) (now (tos .entry)) (now (ways .entry))) (now (stack .entry)) height p r ⌝ }
+    ensures { λ r. ⌜ FullAnswers (graphOf size (now (kinds .entry)) (now (checks .entry)) (now (privileged .entry)) (now (entries .entry)) (now (grants .entry)) (now (froms .entry)) (now (tos .entry)) (now (ways .entry))) (now (stack .entry)) height p r ⌝ }
 {
+    let k = size.k;
+    let n = size.n;
     let judged = graph::check(
-        k,
-        n,
-        m,
+        size,
         kinds,
         checks,
         privileged,
@@ -157,9 +156,7 @@ pub fn full(
 
 // Whether quick inspection of the stack, by the denied and granted sets as they are, passes the permission.
 pub fn quick(
-    k: usize,
-    n: usize,
-    m: usize,
+    size: Size,
     kinds: &[u8],
     checks: &[u16],
     privileged: &[u8],
@@ -174,15 +171,15 @@ pub fn quick(
     height: usize,
     p: usize,
 ) -> Inspection
-    ensures { λ r. ⌜ QuickAnswers (graphOf k n m (now (kinds .entry)) (now (checks .entry)) (now (privileged .entry)) (now (entries .entry)) (now (grants .entry)) (now (froms .entry)) (now (tos .entry)) (now (ways .entry))) (now (denied .entry)) (now (granted .entry)) (now (stack .entry)) height p r ⌝ }
+    ensures { λ r. ⌜ QuickAnswers (graphOf size (now (kinds .entry)) (now (checks .entry)) (now (privileged .entry)) (now (entries .entry)) (now (grants .entry)) (now (froms .entry)) (now (tos .entry)) (now (ways .entry))) (now (denied .entry)) (now (granted .entry)) (now (stack .entry)) height p r ⌝ }
 {
+    let k = size.k;
+    let n = size.n;
     if !solver::sets_long(n, denied.len(), granted.len()) {
         return Inspection::Refused(Refusal::Shape);
     }
     let judged = graph::check(
-        k,
-        n,
-        m,
+        size,
         kinds,
         checks,
         privileged,
@@ -204,8 +201,8 @@ pub fn quick(
     look_quick(denied, granted, stack, height, p)
 }
 
-fn joins(from: u16, to: u16, way: u8, call: bool, a: usize, b: usize) -> bool
-    ensures { λ r. ⌜ Says (Joins from to way call a b) r ⌝ }
+fn joins(from: u16, to: u16, way: u8, sort: u8, a: usize, b: usize) -> bool
+    ensures { λ r. ⌜ Says (Joins from to way sort a b) r ⌝ }
 {
     if from as usize != a {
         return false;
@@ -213,20 +210,17 @@ fn joins(from: u16, to: u16, way: u8, call: bool, a: usize, b: usize) -> bool
     if to as usize != b {
         return false;
     }
-    if way == 0 {
-        return call;
-    }
-    !call
+    way == sort
 }
 
 // The first edge that joins a to b, or how many edges there are.
-fn first_joining(froms: &[u16], tos: &[u16], ways: &[u8], call: bool, a: usize, b: usize) -> usize
+fn first_joining(froms: &[u16], tos: &[u16], ways: &[u8], sort: u8, a: usize, b: usize) -> usize
     requires { ⌜ (length (now tos) ≡ length (now froms)) × (length (now ways) ≡ length (now froms)) ⌝ }
-    ensures { λ r. ⌜ First (λ i. JoinsAt (now (froms .entry)) (now (tos .entry)) (now (ways .entry)) call a b i → ⊥) (length (now (froms .entry))) r ⌝ }
+    ensures { λ r. ⌜ First (λ i. JoinsAt (now (froms .entry)) (now (tos .entry)) (now (ways .entry)) sort a b i → ⊥) (length (now (froms .entry))) r ⌝ }
 {
     let mut i = 0;
     while i < froms.len() {
-        if joins(froms[i], tos[i], ways[i], call, a, b) {
+        if joins(froms[i], tos[i], ways[i], sort, a, b) {
             return i;
         }
         i += 1;
@@ -235,11 +229,11 @@ fn first_joining(froms: &[u16], tos: &[u16], ways: &[u8], call: bool, a: usize, 
 }
 
 // Whether an edge joins a to b.
-fn leads(froms: &[u16], tos: &[u16], ways: &[u8], call: bool, a: usize, b: usize) -> bool
+fn leads(froms: &[u16], tos: &[u16], ways: &[u8], sort: u8, a: usize, b: usize) -> bool
     requires { ⌜ (length (now tos) ≡ length (now froms)) × (length (now ways) ≡ length (now froms)) ⌝ }
-    ensures { λ r. ⌜ Says (Linked (now (froms .entry)) (now (tos .entry)) (now (ways .entry)) call a b) r ⌝ }
+    ensures { λ r. ⌜ Says (Linked (now (froms .entry)) (now (tos .entry)) (now (ways .entry)) sort a b) r ⌝ }
 {
-    first_joining(froms, tos, ways, call, a, b) < froms.len()
+    first_joining(froms, tos, ways, sort, a, b) < froms.len()
 }
 
 // Where a rule writes the next node, inspection set aside.
@@ -266,13 +260,13 @@ fn find_place(
     let top = stack[height - 1] as usize;
     let kind = kinds[top];
     if kind == 0 {
-        if leads(froms, tos, ways, true, top, next) {
+        if leads(froms, tos, ways, graph::CALL, top, next) {
             return Place::At(height);
         }
         return Place::Nowhere;
     }
     if kind == 2 {
-        if leads(froms, tos, ways, false, top, next) {
+        if leads(froms, tos, ways, graph::TRANSFER, top, next) {
             return Place::At(height - 1);
         }
         return Place::Nowhere;
@@ -284,7 +278,7 @@ fn find_place(
         return Place::Nowhere;
     }
     let lower = stack[height - 2] as usize;
-    if leads(froms, tos, ways, false, lower, next) {
+    if leads(froms, tos, ways, graph::TRANSFER, lower, next) {
         return Place::At(height - 2);
     }
     Place::Nowhere
@@ -344,9 +338,7 @@ fn move_to(
 
 // Takes the step that names the next node, or refuses.
 pub fn step(
-    k: usize,
-    n: usize,
-    m: usize,
+    size: Size,
     kinds: &[u8],
     checks: &[u16],
     privileged: &[u8],
@@ -359,12 +351,11 @@ pub fn step(
     height: usize,
     next: usize,
 ) -> Stepped
-    ensures { λ r. ⌜ Steps (graphOf k n m (now (kinds .entry)) (now (checks .entry)) (now (privileged .entry)) (now (entries .entry)) (now (grants .entry)) (now (froms .entry)) (now (tos .entry)) (now (ways .entry))) (now (stack .entry)) height next r (now (stack .exit)) ⌝ }
+    ensures { λ r. ⌜ Steps (graphOf size (now (kinds .entry)) (now (checks .entry)) (now (privileged .entry)) (now (entries .entry)) (now (grants .entry)) (now (froms .entry)) (now (tos .entry)) (now (ways .entry))) (now (stack .entry)) height next r (now (stack .exit)) ⌝ }
 {
+    let n = size.n;
     let judged = graph::check(
-        k,
-        n,
-        m,
+        size,
         kinds,
         checks,
         privileged,

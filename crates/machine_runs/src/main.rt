@@ -2,9 +2,13 @@
 // they answer differently, whether quick looked at more frames, and how many frames each looked at. Then the same on stacks of random
 // nodes, where the two may differ, to show that a difference is seen.
 use graph::Judged;
+use graph::Size;
 use libc::STDOUT_FILENO;
 use machine::Inspection;
 use machine::Stepped;
+
+// Of every graph.
+const GRAPH_SIZE: Size = Size { k: 8, n: 24, m: 64 };
 
 // The places of the tally.
 const STACKS: usize = 0;
@@ -185,9 +189,7 @@ fn inspect_for(
     p: usize,
 ) {
     let full = machine::full(
-        8,
-        24,
-        64,
+        GRAPH_SIZE,
         kinds,
         checks,
         privileged,
@@ -201,9 +203,7 @@ fn inspect_for(
         p,
     );
     let quick = machine::quick(
-        8,
-        24,
-        64,
+        GRAPH_SIZE,
         kinds,
         checks,
         privileged,
@@ -281,9 +281,7 @@ fn take(
     while j < 24 {
         let next = (start % 24 + j) % 24;
         let stepped = machine::step(
-            8,
-            24,
-            64,
+            GRAPH_SIZE,
             kinds,
             checks,
             privileged,
@@ -428,9 +426,7 @@ fn solve_and_run(
     let mut may = [0u64; 64];
     let mut sure = [0u64; 64];
     let answer = solver::solve(
-        8,
-        24,
-        64,
+        GRAPH_SIZE,
         kinds,
         checks,
         privileged,

@@ -13,6 +13,7 @@ use Rattle.lex.specs.declared.Decimal.{Decimal}
 use Rattle.lex.specs.declared.Decimal.the-variants.{Value, Not}
 use Rattle.lex.specs.declared.Piece.{Piece}
 use Rattle.lex.specs.declared.Piece.the-variants.{Part, NoPart}
+use Rattle.graph.specs.Graph.{sizeOf}
 use Rattle.graph.specs.Judge.{rangeTest}
 use Rattle.records.specs.declared.Form.{Form}
 use Rattle.records.specs.declared.Form.the-variants.{Tag, Number, Own, Kind, Check, Marks, Way, Empty}
@@ -20,7 +21,7 @@ use Rattle.records.specs.declared.Found.{Found}
 use Rattle.records.specs.declared.Found.the-variants.{At, Wrong}
 use Rattle.records.specs.declared.Node.{Node}
 use Rattle.records.specs.declared.Edge.{Edge}
-use Rattle.records.specs.declared.Counts.{Counts}
+use Rattle.graph.specs.declared.Size.{Size}
 use Rattle.records.specs.declared.Three.{Three}
 use Rattle.records.specs.declared.Lead.{Lead}
 
@@ -105,8 +106,8 @@ threeAt letter form s at =
     formAt Empty s p ⟫ λ _ p. endAt Empty s p ⟫ λ _ p. got (record { a = a; b = b; c = c }) p
 
 -- The first row: G, K, N, M and two empty fields, the counts in range.
-unfoldable pub headerAt : List ℕ → ℕ → Got Counts
-headerAt s at = onGot (threeAt 71 Number s at) no (λ x p. cond (rangeTest (x .a) (x .b) (x .c)) (got (record { k = x .a; n = x .b; m = x .c }) p) no)
+unfoldable pub headerAt : List ℕ → ℕ → Got Size
+headerAt s at = onGot (threeAt 71 Number s at) no (λ x p. cond (rangeTest (sizeOf (x .a) (x .b) (x .c))) (got (sizeOf (x .a) (x .b) (x .c)) p) no)
 
 -- A node row: N, its number, its kind, its check permission, its marks; and its grants.
 unfoldable pub leadAt : List ℕ → (at i : ℕ) → Got Lead

@@ -1,5 +1,6 @@
 // Reads a row of a text: the first row, a node's or an edge's.
 use graph;
+use graph::Size;
 use lex::Decimal;
 use lex::Listed;
 use lex::Piece;
@@ -667,16 +668,9 @@ fn slow_edge(s: &[u8], at: usize) -> EdgeRow
     }
 }
 
-// How many permissions, nodes and edges there are.
-pub struct Counts {
-    pub k: usize,
-    pub n: usize,
-    pub m: usize,
-}
-
 // The first row, and the position past it.
 pub enum Header {
-    At { counts: Counts, next: usize },
+    At { counts: Size, next: usize },
     Wrong,
 }
 
@@ -686,15 +680,13 @@ pub fn read_header(s: &[u8], at: usize) -> Header
     let ThreeRow::At { three, next } = read_three(s, at, 71, Form::Number) else {
         return Header::Wrong;
     };
-    if !graph::in_range(three.a, three.b, three.c) {
+    let counts = Size {
+        k: three.a,
+        n: three.b,
+        m: three.c,
+    };
+    if !graph::in_range(counts) {
         return Header::Wrong;
     }
-    Header::At {
-        counts: Counts {
-            k: three.a,
-            n: three.b,
-            m: three.c,
-        },
-        next,
-    }
+    Header::At { counts, next }
 }

@@ -11,15 +11,14 @@ use super::show::print_u64s;
 use super::show::print_unless_kept;
 use graph::Judged;
 use graph::Refusal;
+use graph::Size;
 use machine::Inspection;
 use machine::Stepped;
 use rows::Written;
 use solver::Ruling;
 
 fn check(
-    k: usize,
-    n: usize,
-    m: usize,
+    size: Size,
     kinds: &[u8],
     checks: &[u16],
     privileged: &[u8],
@@ -30,9 +29,7 @@ fn check(
     ways: &[u8],
 ) {
     let judged = graph::check(
-        k,
-        n,
-        m,
+        size,
         kinds,
         checks,
         privileged,
@@ -78,9 +75,7 @@ fn keeps_all(denied: &[u64], granted: &[u64], may: &[u64], sure: &[u64]) -> bool
 }
 
 pub(crate) fn solve_into(
-    k: usize,
-    n: usize,
-    m: usize,
+    size: Size,
     kinds: &[u8],
     checks: &[u16],
     privileged: &[u8],
@@ -95,9 +90,7 @@ pub(crate) fn solve_into(
     sure: &mut [u64],
 ) {
     let judged = solver::solve(
-        k,
-        n,
-        m,
+        size,
         kinds,
         checks,
         privileged,
@@ -116,9 +109,7 @@ pub(crate) fn solve_into(
 
 fn verdict(
     node: usize,
-    k: usize,
-    n: usize,
-    m: usize,
+    size: Size,
     kinds: &[u8],
     checks: &[u16],
     privileged: &[u8],
@@ -131,9 +122,7 @@ fn verdict(
     granted: &[u64],
 ) {
     let ruling = solver::verdict(
-        k,
-        n,
-        m,
+        size,
         kinds,
         checks,
         privileged,
@@ -163,9 +152,7 @@ fn print_inspection(answer: Inspection) {
 fn full(
     p: usize,
     height: usize,
-    k: usize,
-    n: usize,
-    m: usize,
+    size: Size,
     kinds: &[u8],
     checks: &[u16],
     privileged: &[u8],
@@ -177,9 +164,7 @@ fn full(
     stack: &[u16],
 ) {
     print_inspection(machine::full(
-        k,
-        n,
-        m,
+        size,
         kinds,
         checks,
         privileged,
@@ -197,9 +182,7 @@ fn full(
 fn quick(
     p: usize,
     height: usize,
-    k: usize,
-    n: usize,
-    m: usize,
+    size: Size,
     kinds: &[u8],
     checks: &[u16],
     privileged: &[u8],
@@ -213,9 +196,7 @@ fn quick(
     stack: &[u16],
 ) {
     print_inspection(machine::quick(
-        k,
-        n,
-        m,
+        size,
         kinds,
         checks,
         privileged,
@@ -249,9 +230,7 @@ fn print_step(answer: Stepped, height: usize) -> usize {
 pub(crate) fn step_on(
     next: usize,
     height: usize,
-    k: usize,
-    n: usize,
-    m: usize,
+    size: Size,
     kinds: &[u8],
     checks: &[u16],
     privileged: &[u8],
@@ -263,9 +242,7 @@ pub(crate) fn step_on(
     stack: &mut [u16],
 ) -> usize {
     let answer = machine::step(
-        k,
-        n,
-        m,
+        size,
         kinds,
         checks,
         privileged,
@@ -357,9 +334,7 @@ fn inspect(
     call: usize,
     p: usize,
     height: usize,
-    k: usize,
-    n: usize,
-    m: usize,
+    size: Size,
     kinds: &[u8],
     checks: &[u16],
     privileged: &[u8],
@@ -376,9 +351,7 @@ fn inspect(
         full(
             p,
             height,
-            k,
-            n,
-            m,
+            size,
             kinds,
             checks,
             privileged,
@@ -394,9 +367,7 @@ fn inspect(
     quick(
         p,
         height,
-        k,
-        n,
-        m,
+        size,
         kinds,
         checks,
         privileged,
@@ -414,9 +385,7 @@ fn inspect(
 fn judge(
     call: usize,
     node: usize,
-    k: usize,
-    n: usize,
-    m: usize,
+    size: Size,
     kinds: &[u8],
     checks: &[u16],
     privileged: &[u8],
@@ -430,9 +399,7 @@ fn judge(
 ) {
     if call == 0 {
         check(
-            k,
-            n,
-            m,
+            size,
             kinds,
             checks,
             privileged,
@@ -446,9 +413,7 @@ fn judge(
     }
     verdict(
         node,
-        k,
-        n,
-        m,
+        size,
         kinds,
         checks,
         privileged,
@@ -467,9 +432,7 @@ pub(crate) fn ask(
     call: usize,
     asked: usize,
     height: usize,
-    k: usize,
-    n: usize,
-    m: usize,
+    size: Size,
     kinds: &[u8],
     checks: &[u16],
     privileged: &[u8],
@@ -483,16 +446,14 @@ pub(crate) fn ask(
     stack: &[u16],
 ) {
     if call == 8 {
-        write_result(asked, n, kinds, checks, denied, granted);
+        write_result(asked, size.n, kinds, checks, denied, granted);
         return;
     }
     if call < 3 {
         judge(
             call,
             asked,
-            k,
-            n,
-            m,
+            size,
             kinds,
             checks,
             privileged,
@@ -510,9 +471,7 @@ pub(crate) fn ask(
         call,
         asked,
         height,
-        k,
-        n,
-        m,
+        size,
         kinds,
         checks,
         privileged,

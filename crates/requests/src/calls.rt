@@ -10,6 +10,7 @@ use super::numbers::read_numbers;
 use super::show::BLANK_U8;
 use super::show::BLANK_U16;
 use super::show::BLANK_U64;
+use graph::Size;
 
 // Where the next call stands among the numbers, how many places the lent slices have, and the stack's height.
 struct State {
@@ -69,9 +70,7 @@ fn blank(s: &mut [u64]) {
 fn solve_lent(
     state: State,
     numbers: &[usize],
-    k: usize,
-    n: usize,
-    m: usize,
+    size: Size,
     kinds: &[u8],
     checks: &[u16],
     privileged: &[u8],
@@ -90,9 +89,7 @@ fn solve_lent(
     let c = at_most(peek(numbers, plus(state.at, 3)), 4097);
     let d = at_most(peek(numbers, plus(state.at, 4)), 4097);
     answers::solve_into(
-        k,
-        n,
-        m,
+        size,
         kinds,
         checks,
         privileged,
@@ -113,9 +110,7 @@ fn solve_lent(
 fn solve(
     state: State,
     numbers: &[usize],
-    k: usize,
-    n: usize,
-    m: usize,
+    size: Size,
     kinds: &[u8],
     checks: &[u16],
     privileged: &[u8],
@@ -132,9 +127,7 @@ fn solve(
     solve_lent(
         state,
         numbers,
-        k,
-        n,
-        m,
+        size,
         kinds,
         checks,
         privileged,
@@ -151,9 +144,7 @@ fn solve(
 fn step(
     state: State,
     numbers: &[usize],
-    k: usize,
-    n: usize,
-    m: usize,
+    size: Size,
     kinds: &[u8],
     checks: &[u16],
     privileged: &[u8],
@@ -168,9 +159,7 @@ fn step(
     let height = answers::step_on(
         peek(numbers, plus(state.at, 1)),
         state.height,
-        k,
-        n,
-        m,
+        size,
         kinds,
         checks,
         privileged,
@@ -187,9 +176,7 @@ fn step(
 fn ask_lent(
     state: State,
     numbers: &[usize],
-    k: usize,
-    n: usize,
-    m: usize,
+    size: Size,
     kinds: &[u8],
     checks: &[u16],
     privileged: &[u8],
@@ -210,9 +197,7 @@ fn ask_lent(
         call,
         peek(numbers, plus(state.at, 1)),
         state.height,
-        k,
-        n,
-        m,
+        size,
         kinds,
         checks,
         privileged,
@@ -292,9 +277,7 @@ fn takes_no_graph(call: usize) -> bool {
 fn answer_call(
     state: State,
     numbers: &[usize],
-    k: usize,
-    n: usize,
-    m: usize,
+    size: Size,
     kinds: &[u8],
     checks: &[u16],
     privileged: &[u8],
@@ -315,9 +298,7 @@ fn answer_call(
         return solve(
             state,
             numbers,
-            k,
-            n,
-            m,
+            size,
             kinds,
             checks,
             privileged,
@@ -334,9 +315,7 @@ fn answer_call(
         return step(
             state,
             numbers,
-            k,
-            n,
-            m,
+            size,
             kinds,
             checks,
             privileged,
@@ -351,9 +330,7 @@ fn answer_call(
     ask_lent(
         state,
         numbers,
-        k,
-        n,
-        m,
+        size,
         kinds,
         checks,
         privileged,
@@ -387,9 +364,7 @@ fn list_length(numbers: &[usize], list: usize) -> usize {
 fn answer_calls_from(
     start: usize,
     numbers: &[usize],
-    k: usize,
-    n: usize,
-    m: usize,
+    size: Size,
     kinds: &[u8],
     checks: &[u16],
     privileged: &[u8],
@@ -417,9 +392,7 @@ fn answer_calls_from(
         state = answer_call(
             state,
             numbers,
-            k,
-            n,
-            m,
+            size,
             kinds,
             checks,
             privileged,
@@ -455,15 +428,18 @@ fn answer_on_graph(
     let f = at_most(list_length(numbers, 5), froms.len());
     let g = at_most(list_length(numbers, 6), tos.len());
     let h = at_most(list_length(numbers, 7), ways.len());
+    let size = Size {
+        k: peek(numbers, 0),
+        n: peek(numbers, 1),
+        m: peek(numbers, 2),
+    };
     let mut denied = [BLANK_U64; 1025];
     let mut granted = [BLANK_U64; 1025];
     let mut stack = [BLANK_U16; 1025];
     answer_calls_from(
         list_at(numbers, 8),
         numbers,
-        peek(numbers, 0),
-        peek(numbers, 1),
-        peek(numbers, 2),
+        size,
         &kinds[0..a],
         &checks[0..b],
         &privileged[0..c],

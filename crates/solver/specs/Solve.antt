@@ -31,7 +31,7 @@ pub record ResultsLong (n m denied granted mayOut sureOut : ℕ) : Type 0 where
   pub sure-long : sureOut ≡ m
 
 abbrev pub Long : Graph → Slices → Type 0
-Long g s = ResultsLong (g .n) (g .m) (length (s .denied)) (length (s .granted)) (length (s .mayOut)) (length (s .sureOut))
+Long g s = ResultsLong (g .size .n) (g .size .m) (length (s .denied)) (length (s .granted)) (length (s .mayOut)) (length (s .sureOut))
 
 -- Refusal 1 also for the result slices; else as the graph is refused.
 pub data SolveRefuses (g : Graph) (s : Slices) : Numbered → Type 0 where
@@ -58,15 +58,15 @@ pub record SetsLong (n denied granted : ℕ) : Type 0 where
 
 -- Refusal 1 also for the two slices, then as the graph is refused, then 5 for the node, then 7 for one that is no check.
 pub data VerdictRefuses (g : Graph) (denied granted : List ℕ) (n : ℕ) : Numbered → Type 0 where
-  sets : (SetsLong (g .n) (length denied) (length granted) → ⊥) → VerdictRefuses g denied granted n (1 at 0)
-  graph : {x : Numbered} → SetsLong (g .n) (length denied) (length granted) → Refuses g x → VerdictRefuses g denied granted n x
-  asked : SetsLong (g .n) (length denied) (length granted) → Acceptable g → (n < g .n → ⊥) → VerdictRefuses g denied granted n (5 at 0)
-  no-check : SetsLong (g .n) (length denied) (length granted) → Acceptable g → n < g .n → isCheck g n ≡ false → VerdictRefuses g denied granted n (7 at 0)
+  sets : (SetsLong (g .size .n) (length denied) (length granted) → ⊥) → VerdictRefuses g denied granted n (1 at 0)
+  graph : {x : Numbered} → SetsLong (g .size .n) (length denied) (length granted) → Refuses g x → VerdictRefuses g denied granted n x
+  asked : SetsLong (g .size .n) (length denied) (length granted) → Acceptable g → (n < g .size .n → ⊥) → VerdictRefuses g denied granted n (5 at 0)
+  no-check : SetsLong (g .size .n) (length denied) (length granted) → Acceptable g → n < g .size .n → isCheck g n ≡ false → VerdictRefuses g denied granted n (7 at 0)
 
 pub record VerdictGiven (g : Graph) (denied granted : List ℕ) (n : ℕ) (v : Finding) : Type 0 where
-  pub long : SetsLong (g .n) (length denied) (length granted)
+  pub long : SetsLong (g .size .n) (length denied) (length granted)
   pub acceptable : Acceptable g
-  pub below : n < g .n
+  pub below : n < g .size .n
   pub at-check : isCheck g n ≡ true
   pub number : verdictNumber v ≡ verdictOf (has (getD denied n 0) (check g n)) (has (getD granted n 0) (check g n))
 

@@ -1,6 +1,7 @@
 // The solver: for every node what is surely denied and surely granted, by the two equation systems.
 use graph::Judged;
 use graph::Refusal;
+use graph::Size;
 use sets::Set;
 ghost use mathlib.Core.Path.{_≡_};
 ghost use mathlib.Core.Bool.{true, false};
@@ -8,7 +9,7 @@ ghost use Prim.Native.Nat.{ℕ, _+_, _-_, _≤_, _<_};
 ghost use lib.ListN.{length, getD};
 ghost use Rattle.truth.specs.Truth.{Says};
 ghost use Rattle.sets.specs.Sets.{has};
-ghost use Rattle.graph.specs.Graph.{graphOf, Acceptable, Content, verdictOf};
+ghost use Rattle.graph.specs.Graph.{graphOf, sizeOf, Acceptable, Content, verdictOf};
 ghost use Rattle.flow.specs.Walk.{systemOf, judgedNum, movedBy, carriedBy, state, fresh, sendFrom, Linked, Sendable, Delivered, Put, Begun, Storable, NodesStored, Setting, Walking};
 ghost use Rattle.flow.specs.Walk.Settled.{Settled};
 ghost use Rattle.solver.specs.Solve.{slices, ResultsLong, Solves, verdictNumber, SetsLong, Rules};
@@ -261,11 +262,11 @@ fn walk(
     head: &[u16],
     prev: &[u16],
 )
-    requires { ⌜ Setting (graphOf k n m (now kinds) (now checks) (now privileged) (now entries) (now grants) (now froms) (now tos) (now ways)) (systemOf sure) (now wide) (now any) ⌝ }
-    requires { ⌜ Walking (graphOf k n m (now kinds) (now checks) (now privileged) (now entries) (now grants) (now froms) (now tos) (now ways)) (systemOf sure) (now wide) (now any) (state (now ins) (now past) (now marks) (now stack) n) ⌝ }
+    requires { ⌜ Setting (graphOf (sizeOf k n m) (now kinds) (now checks) (now privileged) (now entries) (now grants) (now froms) (now tos) (now ways)) (systemOf sure) (now wide) (now any) ⌝ }
+    requires { ⌜ Walking (graphOf (sizeOf k n m) (now kinds) (now checks) (now privileged) (now entries) (now grants) (now froms) (now tos) (now ways)) (systemOf sure) (now wide) (now any) (state (now ins) (now past) (now marks) (now stack) n) ⌝ }
     requires { ⌜ Linked (now froms) n (now head) (now prev) m ⌝ }
     requires { ⌜ (m ≤ length (now wide)) × (n ≤ length (now any)) × (n ≤ length (now head)) × (m ≤ length (now prev)) ⌝ }
-    ensures { λ r. ⌜ Walking (graphOf k n m (now (kinds .entry)) (now (checks .entry)) (now (privileged .entry)) (now (entries .entry)) (now (grants .entry)) (now (froms .entry)) (now (tos .entry)) (now (ways .entry))) (systemOf sure) (now (wide .entry)) (now (any .entry)) (state (now (ins .exit)) (now (past .exit)) (now (marks .exit)) (now (stack .exit)) 0) ⌝ }
+    ensures { λ r. ⌜ Walking (graphOf (sizeOf k n m) (now (kinds .entry)) (now (checks .entry)) (now (privileged .entry)) (now (entries .entry)) (now (grants .entry)) (now (froms .entry)) (now (tos .entry)) (now (ways .entry))) (systemOf sure) (now (wide .entry)) (now (any .entry)) (state (now (ins .exit)) (now (past .exit)) (now (marks .exit)) (now (stack .exit)) 0) ⌝ }
 {
     let mut top = n;
     while 0 < top {
@@ -301,9 +302,7 @@ fn run(
     past: &mut [u64],
     out: &mut [u64],
     sure: bool,
-    k: usize,
-    n: usize,
-    m: usize,
+    size: Size,
     kinds: &[u8],
     checks: &[u16],
     privileged: &[u8],
@@ -317,25 +316,25 @@ fn run(
     head: &[u16],
     prev: &[u16],
 )
-    requires { ⌜ Setting (graphOf k n m (now kinds) (now checks) (now privileged) (now entries) (now grants) (now froms) (now tos) (now ways)) (systemOf sure) (now wide) (now any) ⌝ }
-    requires { ⌜ Linked (now froms) n (now head) (now prev) m ⌝ }
-    requires { ⌜ (m ≤ length (now wide)) × (n ≤ length (now any)) × (n ≤ length (now head)) × (m ≤ length (now prev)) ⌝ }
-    requires { ⌜ (n ≤ length (now ins)) × (n ≤ length (now past)) × (m ≤ length (now out)) ⌝ }
-    ensures { λ r. ⌜ Settled (graphOf k n m (now (kinds .entry)) (now (checks .entry)) (now (privileged .entry)) (now (entries .entry)) (now (grants .entry)) (now (froms .entry)) (now (tos .entry)) (now (ways .entry))) (systemOf sure) (now (wide .entry)) (now (any .entry)) (now (ins .exit)) (now (past .exit)) (now (out .exit)) ⌝ }
+    requires { ⌜ Setting (graphOf size (now kinds) (now checks) (now privileged) (now entries) (now grants) (now froms) (now tos) (now ways)) (systemOf sure) (now wide) (now any) ⌝ }
+    requires { ⌜ Linked (now froms) (size .n) (now head) (now prev) (size .m) ⌝ }
+    requires { ⌜ (size .m ≤ length (now wide)) × (size .n ≤ length (now any)) × (size .n ≤ length (now head)) × (size .m ≤ length (now prev)) ⌝ }
+    requires { ⌜ (size .n ≤ length (now ins)) × (size .n ≤ length (now past)) × (size .m ≤ length (now out)) ⌝ }
+    ensures { λ r. ⌜ Settled (graphOf size (now (kinds .entry)) (now (checks .entry)) (now (privileged .entry)) (now (entries .entry)) (now (grants .entry)) (now (froms .entry)) (now (tos .entry)) (now (ways .entry))) (systemOf sure) (now (wide .entry)) (now (any .entry)) (now (ins .exit)) (now (past .exit)) (now (out .exit)) ⌝ }
 {
     let mut marks = [1u8; 1024];
     let mut stack = [0u16; 1024];
-    begin(ins, past, sure, k, n, checks, entries, grants);
-    fill(&mut stack, n);
+    begin(ins, past, sure, size.k, size.n, checks, entries, grants);
+    fill(&mut stack, size.n);
     walk(
         ins,
         past,
         &mut marks,
         &mut stack,
         sure,
-        k,
-        n,
-        m,
+        size.k,
+        size.n,
+        size.m,
         kinds,
         checks,
         privileged,
@@ -352,8 +351,8 @@ fn run(
     store_outs(
         out,
         sure,
-        n,
-        m,
+        size.n,
+        size.m,
         kinds,
         checks,
         privileged,
@@ -373,9 +372,7 @@ fn store(
     granted: &mut [u64],
     may: &mut [u64],
     sure: &mut [u64],
-    k: usize,
-    n: usize,
-    m: usize,
+    size: Size,
     kinds: &[u8],
     checks: &[u16],
     privileged: &[u8],
@@ -385,9 +382,9 @@ fn store(
     tos: &[u16],
     ways: &[u8],
 )
-    requires { ⌜ Acceptable (graphOf k n m (now kinds) (now checks) (now privileged) (now entries) (now grants) (now froms) (now tos) (now ways)) ⌝ }
-    requires { ⌜ ResultsLong n m (length (now denied)) (length (now granted)) (length (now may)) (length (now sure)) ⌝ }
-    ensures { λ r. ⌜ Content (graphOf k n m (now (kinds .entry)) (now (checks .entry)) (now (privileged .entry)) (now (entries .entry)) (now (grants .entry)) (now (froms .entry)) (now (tos .entry)) (now (ways .entry))) (slices (now (denied .exit)) (now (granted .exit)) (now (may .exit)) (now (sure .exit))) ⌝ }
+    requires { ⌜ Acceptable (graphOf size (now kinds) (now checks) (now privileged) (now entries) (now grants) (now froms) (now tos) (now ways)) ⌝ }
+    requires { ⌜ ResultsLong (size .n) (size .m) (length (now denied)) (length (now granted)) (length (now may)) (length (now sure)) ⌝ }
+    ensures { λ r. ⌜ Content (graphOf size (now (kinds .entry)) (now (checks .entry)) (now (privileged .entry)) (now (entries .entry)) (now (grants .entry)) (now (froms .entry)) (now (tos .entry)) (now (ways .entry))) (slices (now (denied .exit)) (now (granted .exit)) (now (may .exit)) (now (sure .exit))) ⌝ }
 {
     let mut head = [0u16; 1024];
     let mut prev = [0u16; 4096];
@@ -395,15 +392,13 @@ fn store(
     let mut may_past = [0u64; 1024];
     let mut sure_ins = [0u64; 1024];
     let mut sure_past = [0u64; 1024];
-    link(&mut head, &mut prev, n, m, froms);
+    link(&mut head, &mut prev, size.n, size.m, froms);
     run(
         &mut may_ins,
         &mut may_past,
         may,
         false,
-        k,
-        n,
-        m,
+        size,
         kinds,
         checks,
         privileged,
@@ -422,9 +417,7 @@ fn store(
         &mut sure_past,
         sure,
         true,
-        k,
-        n,
-        m,
+        size,
         kinds,
         checks,
         privileged,
@@ -441,8 +434,8 @@ fn store(
     store_nodes(
         denied,
         granted,
-        k,
-        n,
+        size.k,
+        size.n,
         privileged,
         grants,
         &may_ins,
@@ -469,9 +462,7 @@ fn results_long(n: usize, m: usize, denied: usize, granted: usize, may: usize, s
 // Solves both systems, and stores the denied and granted sets of every node and the MAY and SURE out sets of every edge. A refusal
 // stores nothing.
 pub fn solve(
-    k: usize,
-    n: usize,
-    m: usize,
+    size: Size,
     kinds: &[u8],
     checks: &[u16],
     privileged: &[u8],
@@ -485,15 +476,20 @@ pub fn solve(
     may: &mut [u64],
     sure: &mut [u64],
 ) -> Judged
-    ensures { λ r. ⌜ Solves (graphOf k n m (now (kinds .entry)) (now (checks .entry)) (now (privileged .entry)) (now (entries .entry)) (now (grants .entry)) (now (froms .entry)) (now (tos .entry)) (now (ways .entry))) (slices (now (denied .entry)) (now (granted .entry)) (now (may .entry)) (now (sure .entry))) r (slices (now (denied .exit)) (now (granted .exit)) (now (may .exit)) (now (sure .exit))) ⌝ }
+    ensures { λ r. ⌜ Solves (graphOf size (now (kinds .entry)) (now (checks .entry)) (now (privileged .entry)) (now (entries .entry)) (now (grants .entry)) (now (froms .entry)) (now (tos .entry)) (now (ways .entry))) (slices (now (denied .entry)) (now (granted .entry)) (now (may .entry)) (now (sure .entry))) r (slices (now (denied .exit)) (now (granted .exit)) (now (may .exit)) (now (sure .exit))) ⌝ }
 {
-    if !results_long(n, m, denied.len(), granted.len(), may.len(), sure.len()) {
+    if !results_long(
+        size.n,
+        size.m,
+        denied.len(),
+        granted.len(),
+        may.len(),
+        sure.len(),
+    ) {
         return Judged::Refused(Refusal::Shape);
     }
     let judged = graph::check(
-        k,
-        n,
-        m,
+        size,
         kinds,
         checks,
         privileged,
@@ -510,9 +506,7 @@ pub fn solve(
                 granted,
                 may,
                 sure,
-                k,
-                n,
-                m,
+                size,
                 kinds,
                 checks,
                 privileged,
@@ -596,9 +590,7 @@ fn rule(denied: &[u64], granted: &[u64], check: u16, node: usize) -> Finding
 
 // What the denied and granted sets, taken as they are, say of the check at a node.
 pub fn verdict(
-    k: usize,
-    n: usize,
-    m: usize,
+    size: Size,
     kinds: &[u8],
     checks: &[u16],
     privileged: &[u8],
@@ -611,15 +603,14 @@ pub fn verdict(
     granted: &[u64],
     node: usize,
 ) -> Ruling
-    ensures { λ r. ⌜ Rules (graphOf k n m (now (kinds .entry)) (now (checks .entry)) (now (privileged .entry)) (now (entries .entry)) (now (grants .entry)) (now (froms .entry)) (now (tos .entry)) (now (ways .entry))) (now (denied .entry)) (now (granted .entry)) node r ⌝ }
+    ensures { λ r. ⌜ Rules (graphOf size (now (kinds .entry)) (now (checks .entry)) (now (privileged .entry)) (now (entries .entry)) (now (grants .entry)) (now (froms .entry)) (now (tos .entry)) (now (ways .entry))) (now (denied .entry)) (now (granted .entry)) node r ⌝ }
 {
+    let n = size.n;
     if !sets_long(n, denied.len(), granted.len()) {
         return Ruling::Refused(Refusal::Shape);
     }
     let judged = graph::check(
-        k,
-        n,
-        m,
+        size,
         kinds,
         checks,
         privileged,

@@ -1,5 +1,6 @@
 // Graphs at the limits, for the count of the instructions that the solver takes: one byte of input picks the shape.
 use graph::Judged;
+use graph::Size;
 use libc::STDIN_FILENO;
 use libc::STDOUT_FILENO;
 ghost use Prim.Native.Nat.{_≤_};
@@ -354,10 +355,9 @@ fn solve(
     requires { ⌜ (m ≤ length (now froms)) × (m ≤ length (now tos)) × (m ≤ length (now ways)) ⌝ }
     requires { ⌜ (n ≤ length (now denied)) × (n ≤ length (now granted)) × (m ≤ length (now may)) × (m ≤ length (now sure)) ⌝ }
 {
+    let size = Size { k: 64, n: n, m: m };
     solver::solve(
-        64,
-        n,
-        m,
+        size,
         &kinds[0..n],
         &checks[0..n],
         &privileged[0..n],

@@ -13,7 +13,7 @@ use mathlib.Core.Bool.{Bool, true, false, cond, _&&_}
 use lib.ListN.{length}
 use lib.Seq.{sets}
 use lib.Dec.{eqb, ltb}
-use Rattle.graph.specs.Graph.{Graph, graphOf}
+use Rattle.graph.specs.Graph.{Graph, sizeOf, PerNode, PerEdge, nodesOf, edgesOf, mapNode, mapEdge, everyNode, everyEdge}
 use Rattle.graph.specs.Refusals.{Numbered, _at_, numbered}
 use Rattle.graph.specs.Judge.{judge}
 use Rattle.graph.specs.declared.Refusal.{Refusal}
@@ -21,7 +21,7 @@ use Rattle.graph.specs.declared.Judged.{Judged}
 use Rattle.graph.specs.declared.Judged.the-variants as judged
 use Rattle.records.specs.declared.Node.{Node}
 use Rattle.records.specs.declared.Edge.{Edge}
-use Rattle.records.specs.declared.Counts.{Counts}
+use Rattle.graph.specs.declared.Size.{Size}
 use Rattle.text.specs.declared.Reading.{Reading}
 use Rattle.text.specs.declared.Reading.the-variants as answer
 use Rattle.records.specs.Records.{Got, got, no, onGot, headerAt, nodeAt, edgeAt}
@@ -64,63 +64,29 @@ textAt s from row =
 
 -- ---- Its graph
 
-abbrev pub kinds : List Node → List ℕ
-kinds = map (λ x. x .kind)
+-- What the rows give for each slice.
+abbrev pub nodeColumns : List Node → PerNode (List ℕ)
+nodeColumns ns = nodesOf (map (λ x. x .kind) ns) (map (λ x. x .check) ns) (map (λ x. x .privileged) ns) (map (λ x. x .entry) ns) (map (λ x. x .grants) ns)
 
-abbrev pub checks : List Node → List ℕ
-checks = map (λ x. x .check)
-
-abbrev pub privilegeds : List Node → List ℕ
-privilegeds = map (λ x. x .privileged)
-
-abbrev pub entries : List Node → List ℕ
-entries = map (λ x. x .entry)
-
-abbrev pub grants : List Node → List ℕ
-grants = map (λ x. x .grants)
-
-abbrev pub froms : List Edge → List ℕ
-froms = map (λ x. x .from)
-
-abbrev pub tos : List Edge → List ℕ
-tos = map (λ x. x .to)
-
-abbrev pub ways : List Edge → List ℕ
-ways = map (λ x. x .way)
+abbrev pub edgeColumns : List Edge → PerEdge (List ℕ)
+edgeColumns es = edgesOf (map (λ x. x .from) es) (map (λ x. x .to) es) (map (λ x. x .way) es)
 
 abbrev pub graphFrom : ℕ → List Node → List Edge → Graph
-graphFrom k ns es = graphOf k (length ns) (length es) (kinds ns) (checks ns) (privilegeds ns) (entries ns) (grants ns) (froms es) (tos es) (ways es)
+graphFrom k ns es = record { size = sizeOf k (length ns) (length es); nodes = nodeColumns ns; edges = edgeColumns es }
 
 -- ---- The reader
 
 -- The slices that a caller lends.
 pub record Lent : Type 0 where
-  pub kinds : List ℕ
-  pub checks : List ℕ
-  pub privileged : List ℕ
-  pub entries : List ℕ
-  pub grants : List ℕ
-  pub froms : List ℕ
-  pub tos : List ℕ
-  pub ways : List ℕ
+  pub nodes : PerNode (List ℕ)
+  pub edges : PerEdge (List ℕ)
 
 abbrev pub lentOf : (kinds checks privileged entries grants froms tos ways : List ℕ) → Lent
-lentOf kinds checks privileged entries grants froms tos ways = record {
-  kinds = kinds;
-  checks = checks;
-  privileged = privileged;
-  entries = entries;
-  grants = grants;
-  froms = froms;
-  tos = tos;
-  ways = ways;
-}
+lentOf kinds checks privileged entries grants froms tos ways = record { nodes = nodesOf kinds checks privileged entries grants; edges = edgesOf froms tos ways }
 
 -- 1,024 places for what is a node's, 4,096 for what is an edge's.
 abbrev pub roomy : Lent → Bool
-roomy x =
-    (eqb (length (x .kinds)) 1024 && (eqb (length (x .checks)) 1024 && (eqb (length (x .privileged)) 1024 && (eqb (length (x .entries)) 1024 && eqb (length (x .grants)) 1024))))
-    && (eqb (length (x .froms)) 4096 && (eqb (length (x .tos)) 4096 && eqb (length (x .ways)) 4096))
+roomy x = everyNode (mapNode (λ l. eqb l 1024) (mapNode length (x .nodes))) && everyEdge (mapEdge (λ l. eqb l 4096) (mapEdge length (x .edges)))
 
 -- What is read: a graph, or the refusal.
 pub data Outcome : Type 0 where
@@ -135,20 +101,30 @@ abbrev pub onMeaning : Meaning → Outcome
 onMeaning (wrong row) = refused (11 at row)
 onMeaning (says k ns es) = onJudged (judge (graphFrom k ns es)) k ns es
 
--- 1 for the slices' lengths, 12 for a text above 65,536 bytes, 11 for its rows, then 2 to 4 as the graph is judged.
-unfoldable pub reading : Lent → List ℕ → Outcome
-reading x s = cond (roomy x) (cond (ltb 65536 (length s)) (refused (12 at 0)) (onMeaning (textAt s 0 1))) (refused (1 at 0))
+-- 12 for a text above 65,536 bytes, 11 for its rows, then 2 to 4 as the graph is judged.
+unfoldable pub outcome : List ℕ → Outcome
+outcome s = cond (ltb 65536 (length s)) (refused (12 at 0)) (onMeaning (textAt s 0 1))
 
--- The first places hold the nodes and the edges, and every other place what it held.
+-- 1 for the slices' lengths comes first.
+unfoldable pub reading : Lent → List ℕ → Outcome
+reading x s = cond (roomy x) (outcome s) (refused (1 at 0))
+
+-- The first places hold what was written, and every other place what it held.
+pub record NodesWritten (before new after : PerNode (List ℕ)) : Type 0 where
+  pub kinds : after .kinds ≡ sets (before .kinds) 0 (new .kinds)
+  pub checks : after .checks ≡ sets (before .checks) 0 (new .checks)
+  pub privileged : after .privileged ≡ sets (before .privileged) 0 (new .privileged)
+  pub entries : after .entries ≡ sets (before .entries) 0 (new .entries)
+  pub grants : after .grants ≡ sets (before .grants) 0 (new .grants)
+
+pub record EdgesWritten (before new after : PerEdge (List ℕ)) : Type 0 where
+  pub froms : after .froms ≡ sets (before .froms) 0 (new .froms)
+  pub tos : after .tos ≡ sets (before .tos) 0 (new .tos)
+  pub ways : after .ways ≡ sets (before .ways) 0 (new .ways)
+
 pub record Stores (before : Lent) (ns : List Node) (es : List Edge) (after : Lent) : Type 0 where
-  pub kinds-so : after .kinds ≡ sets (before .kinds) 0 (kinds ns)
-  pub checks-so : after .checks ≡ sets (before .checks) 0 (checks ns)
-  pub privileged-so : after .privileged ≡ sets (before .privileged) 0 (privilegeds ns)
-  pub entries-so : after .entries ≡ sets (before .entries) 0 (entries ns)
-  pub grants-so : after .grants ≡ sets (before .grants) 0 (grants ns)
-  pub froms-so : after .froms ≡ sets (before .froms) 0 (froms es)
-  pub tos-so : after .tos ≡ sets (before .tos) 0 (tos es)
-  pub ways-so : after .ways ≡ sets (before .ways) 0 (ways es)
+  pub nodes : NodesWritten (before .nodes) (nodeColumns ns) (after .nodes)
+  pub edges : EdgesWritten (before .edges) (edgeColumns es) (after .edges)
 
 -- The answer that says what is read, and what the slices hold after it: a refusal stores nothing.
 pub data Tells (o : Outcome) (before : Lent) : Reading → Lent → Type 0 where

@@ -1,7 +1,7 @@
 // Reads a text into the slices of a graph.
 use graph::Judged;
 use graph::Refusal;
-use records::Counts;
+use graph::Size;
 use records::EdgeRow;
 use records::Header;
 use records::NodeRow;
@@ -10,10 +10,10 @@ ghost use Prim.Native.Nat.{ℕ, _<_, _≤_};
 ghost use lib.ListN.{length, take};
 ghost use lib.Seq.{sets};
 ghost use Rattle.truth.specs.Truth.{Says};
-ghost use Rattle.graph.specs.Graph.{graphOf, NodesLong, EdgesLong};
+ghost use Rattle.graph.specs.Graph.{graphOf, nodesOf, edgesOf, mapNode, mapEdge, NodesLong, EdgesLong};
 ghost use Rattle.graph.specs.Judge.{Judges};
-ghost use Rattle.text.specs.Text.{lentOf, onMeaning, textAt, reading, Tells};
-ghost use Rattle.text.specs.Text.Parts.{NodesRead, EdgesRead, tailFrom, TailRead, RestRead, Places, Room, Parses, NodesCopied, EdgesCopied, heldGraph, Settles, SizesSo};
+ghost use Rattle.text.specs.Text.{lentOf, NodesWritten, EdgesWritten, onMeaning, textAt, reading, Tells};
+ghost use Rattle.text.specs.Text.Parts.{NodesRead, EdgesRead, tailFrom, TailRead, RestRead, Places, Room, Parses, heldGraph, Settles, SizesSo};
 
 // The graph's counts, or why there is none.
 pub enum Reading {
@@ -39,7 +39,7 @@ fn read_nodes(
     n: usize,
 ) -> Ran
     requires { ⌜ (n ≤ length (now kinds)) × (n ≤ length (now checks)) × (n ≤ length (now privileged)) × (n ≤ length (now entries)) × (n ≤ length (now grants)) ⌝ }
-    ensures { λ r. ⌜ NodesRead (now (s .entry)) from n r (now (kinds .entry)) (now (kinds .exit)) (now (checks .entry)) (now (checks .exit)) (now (privileged .entry)) (now (privileged .exit)) (now (entries .entry)) (now (entries .exit)) (now (grants .entry)) (now (grants .exit)) ⌝ }
+    ensures { λ r. ⌜ NodesRead (now (s .entry)) from n r (nodesOf (now (kinds .entry)) (now (checks .entry)) (now (privileged .entry)) (now (entries .entry)) (now (grants .entry))) (nodesOf (now (kinds .exit)) (now (checks .exit)) (now (privileged .exit)) (now (entries .exit)) (now (grants .exit))) ⌝ }
 {
     let mut p = from;
     let mut i: usize = 0;
@@ -68,7 +68,7 @@ fn read_edges(
     m: usize,
 ) -> Ran
     requires { ⌜ (m ≤ length (now froms)) × (m ≤ length (now tos)) × (m ≤ length (now ways)) ⌝ }
-    ensures { λ r. ⌜ EdgesRead (now (s .entry)) from m r (now (froms .entry)) (now (froms .exit)) (now (tos .entry)) (now (tos .exit)) (now (ways .entry)) (now (ways .exit)) ⌝ }
+    ensures { λ r. ⌜ EdgesRead (now (s .entry)) from m r (edgesOf (now (froms .entry)) (now (tos .entry)) (now (ways .entry))) (edgesOf (now (froms .exit)) (now (tos .exit)) (now (ways .exit))) ⌝ }
 {
     let mut p = from;
     let mut i: usize = 0;
@@ -87,12 +87,12 @@ fn read_edges(
 
 // What a text says of its counts, or its first wrong, missing or extra row.
 enum Parsed {
-    Counted(Counts),
+    Counted(Size),
     Wrong(usize),
 }
 
 // The answer where the edge rows, the first of which has this number, ended so.
-fn end_text(ran: Ran, len: usize, row: usize, counts: Counts) -> Parsed
+fn end_text(ran: Ran, len: usize, row: usize, counts: Size) -> Parsed
     requires { ⌜ (row ≤ 65536) × (counts .m ≤ 4096) × ((j : ℕ) → ran ≡ Ran.Stop j → j < counts .m) ⌝ }
     ensures { λ r. ⌜ r ≡ tailFrom ran len row counts ⌝ }
 {
@@ -115,10 +115,10 @@ fn parse_edges(
     s: &[u8],
     from: usize,
     row: usize,
-    counts: Counts,
+    counts: Size,
 ) -> Parsed
     requires { ⌜ ((row ≤ 65536) × (counts .m ≤ 4096)) × (counts .m ≤ length (now froms)) × (counts .m ≤ length (now tos)) × (counts .m ≤ length (now ways)) ⌝ }
-    ensures { λ r. ⌜ TailRead (now (s .entry)) from row counts r (now (froms .entry)) (now (froms .exit)) (now (tos .entry)) (now (tos .exit)) (now (ways .entry)) (now (ways .exit)) ⌝ }
+    ensures { λ r. ⌜ TailRead (now (s .entry)) from row counts r (edgesOf (now (froms .entry)) (now (tos .entry)) (now (ways .entry))) (edgesOf (now (froms .exit)) (now (tos .exit)) (now (ways .exit))) ⌝ }
 {
     let ran = read_edges(froms, tos, ways, s, from, counts.m);
     end_text(ran, s.len(), row, counts)
@@ -137,7 +137,7 @@ fn parse_rows(
     s: &[u8],
     from: usize,
     row: usize,
-    counts: Counts,
+    counts: Size,
 ) -> Parsed
     requires { ⌜ (row ≤ 1024) × Places counts (lentOf (now kinds) (now checks) (now privileged) (now entries) (now grants) (now froms) (now tos) (now ways)) ⌝ }
     ensures { λ r. ⌜ RestRead (now (s .entry)) from row counts r (lentOf (now (kinds .entry)) (now (checks .entry)) (now (privileged .entry)) (now (entries .entry)) (now (grants .entry)) (now (froms .entry)) (now (tos .entry)) (now (ways .entry))) (lentOf (now (kinds .exit)) (now (checks .exit)) (now (privileged .exit)) (now (entries .exit)) (now (grants .exit)) (now (froms .exit)) (now (tos .exit)) (now (ways .exit))) ⌝ }
@@ -241,9 +241,9 @@ fn store_nodes(
     gs: &[u64],
     n: usize,
 )
-    requires { ⌜ (n ≤ 1024) × NodesLong 1024 (length (now kinds)) (length (now checks)) (length (now privileged)) (length (now entries)) (length (now grants)) ⌝ }
-    requires { ⌜ NodesLong 1024 (length (now ks)) (length (now cs)) (length (now ps)) (length (now es)) (length (now gs)) ⌝ }
-    ensures { λ _. ⌜ NodesCopied n (now (ks .entry)) (now (cs .entry)) (now (ps .entry)) (now (es .entry)) (now (gs .entry)) (now (kinds .entry)) (now (checks .entry)) (now (privileged .entry)) (now (entries .entry)) (now (grants .entry)) (now (kinds .exit)) (now (checks .exit)) (now (privileged .exit)) (now (entries .exit)) (now (grants .exit)) ⌝ }
+    requires { ⌜ (n ≤ 1024) × NodesLong 1024 (nodesOf (length (now kinds)) (length (now checks)) (length (now privileged)) (length (now entries)) (length (now grants))) ⌝ }
+    requires { ⌜ NodesLong 1024 (nodesOf (length (now ks)) (length (now cs)) (length (now ps)) (length (now es)) (length (now gs))) ⌝ }
+    ensures { λ _. ⌜ NodesWritten (nodesOf (now (kinds .entry)) (now (checks .entry)) (now (privileged .entry)) (now (entries .entry)) (now (grants .entry))) (mapNode (take n) (nodesOf (now (ks .entry)) (now (cs .entry)) (now (ps .entry)) (now (es .entry)) (now (gs .entry)))) (nodesOf (now (kinds .exit)) (now (checks .exit)) (now (privileged .exit)) (now (entries .exit)) (now (grants .exit))) ⌝ }
 {
     copy_u8(kinds, ks, n);
     copy_u16(checks, cs, n);
@@ -262,9 +262,9 @@ fn store_edges(
     ws: &[u8],
     m: usize,
 )
-    requires { ⌜ (m ≤ 4096) × EdgesLong 4096 (length (now froms)) (length (now tos)) (length (now ways)) ⌝ }
-    requires { ⌜ EdgesLong 4096 (length (now fs)) (length (now ts)) (length (now ws)) ⌝ }
-    ensures { λ _. ⌜ EdgesCopied m (now (fs .entry)) (now (ts .entry)) (now (ws .entry)) (now (froms .entry)) (now (tos .entry)) (now (ways .entry)) (now (froms .exit)) (now (tos .exit)) (now (ways .exit)) ⌝ }
+    requires { ⌜ (m ≤ 4096) × EdgesLong 4096 (edgesOf (length (now froms)) (length (now tos)) (length (now ways))) ⌝ }
+    requires { ⌜ EdgesLong 4096 (edgesOf (length (now fs)) (length (now ts)) (length (now ws))) ⌝ }
+    ensures { λ _. ⌜ EdgesWritten (edgesOf (now (froms .entry)) (now (tos .entry)) (now (ways .entry))) (mapEdge (take m) (edgesOf (now (fs .entry)) (now (ts .entry)) (now (ws .entry)))) (edgesOf (now (froms .exit)) (now (tos .exit)) (now (ways .exit))) ⌝ }
 {
     copy_u16(froms, fs, m);
     copy_u16(tos, ts, m);
@@ -281,17 +281,15 @@ fn judge(
     fs: &[u16],
     ts: &[u16],
     ws: &[u8],
-    counts: Counts,
+    counts: Size,
 ) -> Judged
     requires { ⌜ ((counts .n ≤ 1024) × (counts .m ≤ 4096)) × Room (lentOf (now ks) (now cs) (now ps) (now es) (now gs) (now fs) (now ts) (now ws)) ⌝ }
-    ensures { λ r. ⌜ Judges (heldGraph (counts .k) (counts .n) (counts .m) (lentOf (now (ks .entry)) (now (cs .entry)) (now (ps .entry)) (now (es .entry)) (now (gs .entry)) (now (fs .entry)) (now (ts .entry)) (now (ws .entry)))) r ⌝ }
+    ensures { λ r. ⌜ Judges (heldGraph counts (lentOf (now (ks .entry)) (now (cs .entry)) (now (ps .entry)) (now (es .entry)) (now (gs .entry)) (now (fs .entry)) (now (ts .entry)) (now (ws .entry)))) r ⌝ }
 {
     let n = counts.n;
     let m = counts.m;
     graph::check(
-        counts.k,
-        n,
-        m,
+        counts,
         &ks[0..n],
         &cs[0..n],
         &ps[0..n],
@@ -321,7 +319,7 @@ fn settle(
     fs: &[u16],
     ts: &[u16],
     ws: &[u8],
-    counts: Counts,
+    counts: Size,
 ) -> Reading
     requires { ⌜ ((counts .n ≤ 1024) × (counts .m ≤ 4096)) × Room (lentOf (now kinds) (now checks) (now privileged) (now entries) (now grants) (now froms) (now tos) (now ways)) × Room (lentOf (now ks) (now cs) (now ps) (now es) (now gs) (now fs) (now ts) (now ws)) ⌝ }
     ensures { λ r. ⌜ Settles counts (lentOf (now (ks .entry)) (now (cs .entry)) (now (ps .entry)) (now (es .entry)) (now (gs .entry)) (now (fs .entry)) (now (ts .entry)) (now (ws .entry))) (lentOf (now (kinds .entry)) (now (checks .entry)) (now (privileged .entry)) (now (entries .entry)) (now (grants .entry)) (now (froms .entry)) (now (tos .entry)) (now (ways .entry))) r (lentOf (now (kinds .exit)) (now (checks .exit)) (now (privileged .exit)) (now (entries .exit)) (now (grants .exit)) (now (froms .exit)) (now (tos .exit)) (now (ways .exit))) ⌝ }
@@ -429,7 +427,7 @@ fn judge_sizes(
     ways: usize,
     text: usize,
 ) -> Sizes
-    ensures { λ r. ⌜ SizesSo kinds checks privileged entries grants froms tos ways text r ⌝ }
+    ensures { λ r. ⌜ SizesSo (nodesOf kinds checks privileged entries grants) (edgesOf froms tos ways) text r ⌝ }
 {
     if !graph::nodes_long(1024, kinds, checks, privileged, entries, grants) {
         return Sizes::NoRoom;

@@ -2,82 +2,30 @@
 // of the input was seen: a text that was cut short by a failed read may be a good text of another graph.
 use graph::Judged;
 use graph::Refusal;
+use graph::Size;
 use libc::STDERR_FILENO;
 use libc::STDIN_FILENO;
 use libc::STDOUT_FILENO;
 use rows::Written;
 use text::Reading;
-ghost use Prim.Native.Nat.{_≤_};
+ghost use mathlib.Core.List.{List};
+ghost use Prim.Native.Nat.{ℕ, _≤_, _<_};
 ghost use lib.ListN.{length};
+ghost use Rattle.graph.specs.Graph.{graphOf, Acceptable};
+ghost use Rattle.solver.specs.Solve.{ResultsLong};
+ghost use Rattle.text.specs.Text.{lentOf};
+ghost use Rattle.text.specs.Text.Parts.{heldGraph, Room};
+ghost use Rattle.verdicts.specs.Prints.{Prints, Answers};
+ghost use Rattle.verdicts.specs.Prints.Parts.{WritesRows};
 
-fn at_most(n: usize, most: usize) -> usize
-    ensures { λ r. ⌜ r ≤ most ⌝ }
-{
-    if most < n { most } else { n }
-}
-
-fn complain(what: &[u8]) {
-    io::write_all(STDERR_FILENO, what);
-}
-
-fn write_first(out: &[u8], count: usize) {
-    let n = at_most(count, out.len());
-    if !io::write_all(STDOUT_FILENO, &out[0..n]) {
-        complain(b"verdicts: the rows could not be written to their end\n");
-    }
-}
-
-fn refuse(why: Refusal) {
-    let mut out = [0u8; 64];
-    if let Written::Bytes(count) = rows::write_refusal(&mut out, why) {
-        write_first(&out, count);
-    }
-}
-
+// Solves a graph that is accepted, and writes its rows at the start of the buffer.
 fn write_rows(
     out: &mut [u8],
-    n: usize,
-    kinds: &[u8],
-    checks: &[u16],
-    denied: &[u64],
-    granted: &[u64],
-)
-    requires { ⌜ (n ≤ length (now kinds)) × (n ≤ length (now checks)) × (n ≤ length (now denied)) × (n ≤ length (now granted)) ⌝ }
-{
-    let written = rows::write_result(
-        out,
-        n,
-        &kinds[0..n],
-        &checks[0..n],
-        &denied[0..n],
-        &granted[0..n],
-    );
-    match written {
-        Written::Bytes(count) => write_first(out, count),
-        Written::Refused(why) => refuse(why),
-    }
-}
-
-// The rows of at most 152 nodes. A row takes at most 429 bytes, the header 29.
-fn write_few(n: usize, kinds: &[u8], checks: &[u16], denied: &[u64], granted: &[u64])
-    requires { ⌜ (n ≤ length (now kinds)) × (n ≤ length (now checks)) × (n ≤ length (now denied)) × (n ≤ length (now granted)) ⌝ }
-{
-    let mut out = [0u8; 65536];
-    write_rows(&mut out, n, kinds, checks, denied, granted);
-}
-
-fn write_many(n: usize, kinds: &[u8], checks: &[u16], denied: &[u64], granted: &[u64])
-    requires { ⌜ (n ≤ length (now kinds)) × (n ≤ length (now checks)) × (n ≤ length (now denied)) × (n ≤ length (now granted)) ⌝ }
-{
-    let mut out = [0u8; 440000];
-    write_rows(&mut out, n, kinds, checks, denied, granted);
-}
-
-// Solves the graph that the first n and m places of the slices hold.
-fn solve(
-    k: usize,
-    n: usize,
-    m: usize,
+    denied: &mut [u64],
+    granted: &mut [u64],
+    may: &mut [u64],
+    sure: &mut [u64],
+    size: Size,
     kinds: &[u8],
     checks: &[u16],
     privileged: &[u8],
@@ -86,55 +34,13 @@ fn solve(
     froms: &[u16],
     tos: &[u16],
     ways: &[u8],
-    denied: &mut [u64],
-    granted: &mut [u64],
-) -> Judged
-    requires { ⌜ (n ≤ length (now kinds)) × (n ≤ length (now checks)) × (n ≤ length (now privileged)) × (n ≤ length (now entries)) × (n ≤ length (now grants)) ⌝ }
-    requires { ⌜ (m ≤ length (now froms)) × (m ≤ length (now tos)) × (m ≤ length (now ways)) × (m ≤ 4096) ⌝ }
-    requires { ⌜ (n ≤ length (now denied)) × (n ≤ length (now granted)) ⌝ }
+) -> Written
+    requires { ⌜ ResultsLong (size .n) (size .m) (length (now denied)) (length (now granted)) (length (now may)) (length (now sure)) ⌝ }
+    requires { ⌜ Acceptable (graphOf size (now kinds) (now checks) (now privileged) (now entries) (now grants) (now froms) (now tos) (now ways)) ⌝ }
+    ensures { λ r. ⌜ WritesRows (graphOf size (now (kinds .entry)) (now (checks .entry)) (now (privileged .entry)) (now (entries .entry)) (now (grants .entry)) (now (froms .entry)) (now (tos .entry)) (now (ways .entry))) (now (out .entry)) r (now (out .exit)) ⌝ }
 {
-    let mut may = [0u64; 4096];
-    let mut sure = [0u64; 4096];
-    solver::solve(
-        k,
-        n,
-        m,
-        &kinds[0..n],
-        &checks[0..n],
-        &privileged[0..n],
-        &entries[0..n],
-        &grants[0..n],
-        &froms[0..m],
-        &tos[0..m],
-        &ways[0..m],
-        &mut denied[0..n],
-        &mut granted[0..n],
-        &mut may[0..m],
-        &mut sure[0..m],
-    )
-}
-
-fn solve_and_write(
-    k: usize,
-    n: usize,
-    m: usize,
-    kinds: &[u8; 1024],
-    checks: &[u16; 1024],
-    privileged: &[u8; 1024],
-    entries: &[u8; 1024],
-    grants: &[u64; 1024],
-    froms: &[u16; 4096],
-    tos: &[u16; 4096],
-    ways: &[u8; 4096],
-) {
-    let nodes = at_most(n, 1024);
-    let edges = at_most(m, 4096);
-    let mut denied = [0u64; 1024];
-    let mut granted = [0u64; 1024];
-    let judged = solve(
-        k,
-        nodes,
-        edges,
+    let judged = solver::solve(
+        size,
         kinds,
         checks,
         privileged,
@@ -143,22 +49,61 @@ fn solve_and_write(
         froms,
         tos,
         ways,
-        &mut denied,
-        &mut granted,
+        denied,
+        granted,
+        may,
+        sure,
     );
     match judged {
-        Judged::Accepted => {
-            if nodes <= 152 {
-                write_few(nodes, kinds, checks, &denied, &granted);
-            } else {
-                write_many(nodes, kinds, checks, &denied, &granted);
-            }
-        }
-        Judged::Refused(why) => refuse(why),
+        Judged::Accepted => rows::write_result(out, size.n, kinds, checks, denied, granted),
+        Judged::Refused(why) => rows::write_refusal(out, why),
     }
 }
 
-fn answer(text: &[u8]) {
+// The same for a graph that the first places of slices with room hold.
+fn answer_graph(
+    out: &mut [u8],
+    size: Size,
+    kinds: &[u8],
+    checks: &[u16],
+    privileged: &[u8],
+    entries: &[u8],
+    grants: &[u64],
+    froms: &[u16],
+    tos: &[u16],
+    ways: &[u8],
+) -> Written
+    requires { ⌜ (size .n ≤ 1024) × (size .m ≤ 4096) × Room (lentOf (now kinds) (now checks) (now privileged) (now entries) (now grants) (now froms) (now tos) (now ways)) × Acceptable (heldGraph size (lentOf (now kinds) (now checks) (now privileged) (now entries) (now grants) (now froms) (now tos) (now ways))) ⌝ }
+    ensures { λ r. ⌜ WritesRows (heldGraph size (lentOf (now (kinds .entry)) (now (checks .entry)) (now (privileged .entry)) (now (entries .entry)) (now (grants .entry)) (now (froms .entry)) (now (tos .entry)) (now (ways .entry)))) (now (out .entry)) r (now (out .exit)) ⌝ }
+{
+    let n = size.n;
+    let m = size.m;
+    let mut denied = [0u64; 1024];
+    let mut granted = [0u64; 1024];
+    let mut may = [0u64; 4096];
+    let mut sure = [0u64; 4096];
+    write_rows(
+        out,
+        &mut denied[0..n],
+        &mut granted[0..n],
+        &mut may[0..m],
+        &mut sure[0..m],
+        size,
+        &kinds[0..n],
+        &checks[0..n],
+        &privileged[0..n],
+        &entries[0..n],
+        &grants[0..n],
+        &froms[0..m],
+        &tos[0..m],
+        &ways[0..m],
+    )
+}
+
+// What is printed for a text, at the start of the buffer, and how many bytes it is; or refusal 10 where the buffer is too short.
+fn answer(out: &mut [u8], text: &[u8]) -> Written
+    ensures { λ r. ⌜ Answers (now (text .entry)) (now (out .entry)) r (now (out .exit)) ⌝ }
+{
     let mut kinds = [0u8; 1024];
     let mut checks = [0u16; 1024];
     let mut privileged = [0u8; 1024];
@@ -179,10 +124,9 @@ fn answer(text: &[u8]) {
         &mut ways,
     );
     match reading {
-        Reading::Graph { k, n, m } => solve_and_write(
-            k,
-            n,
-            m,
+        Reading::Graph { k, n, m } => answer_graph(
+            out,
+            Size { k: k, n: n, m: m },
             &kinds,
             &checks,
             &privileged,
@@ -192,8 +136,84 @@ fn answer(text: &[u8]) {
             &tos,
             &ways,
         ),
-        Reading::Refused(why) => refuse(why),
+        Reading::Refused(why) => rows::write_refusal(out, why),
     }
+}
+
+// The same for every text above 65,536 bytes, of which none has to be seen.
+fn answer_too_long(out: &mut [u8]) -> Written
+    ensures { λ r. ⌜ ((s : List ℕ) → 65536 < length s → Answers s (now (out .entry)) r (now (out .exit))) ⌝ }
+{
+    rows::write_refusal(out, Refusal::TooLong)
+}
+
+fn complain(what: &[u8]) {
+    io::write_all(STDERR_FILENO, what);
+}
+
+// Writes to standard output.
+fn send(out: &[u8]) {
+    if !io::write_all(STDOUT_FILENO, out) {
+        complain(b"verdicts: the rows could not be written to their end\n");
+    }
+}
+
+// What is written for a text is what the text prints.
+fn print(text: &[u8], out: &[u8])
+    requires { ⌜ Prints (now text) (now out) ⌝ }
+{
+    send(out);
+}
+
+// The same for every text above 65,536 bytes.
+fn print_for_long(out: &[u8])
+    requires { ⌜ ((s : List ℕ) → 65536 < length s → Prints s (now out)) ⌝ }
+{
+    send(out);
+}
+
+// Stands where control never comes.
+fn never()
+    requires { ⌜ ⊥ ⌝ }
+{}
+
+// Prints the answer where a buffer of 65,536 bytes is long enough for it, and says whether it was.
+fn print_short(text: &[u8]) -> bool {
+    let mut out = [0u8; 65536];
+    let Written::Bytes(count) = answer(&mut out, text) else {
+        return false;
+    };
+    print(text, &out[0..count]);
+    true
+}
+
+// Prints the answer from a buffer that is long enough for every one: 1,024 rows of at most 429 bytes and the header's 29 are 439,325.
+fn print_long(text: &[u8]) {
+    let mut out = [0u8; 440000];
+    let Written::Bytes(count) = answer(&mut out, text) else {
+        never();
+        return;
+    };
+    print(text, &out[0..count]);
+}
+
+// Short texts seldom have long answers: they are spared the clearing of the long buffer.
+fn print_answer(text: &[u8]) {
+    if text.len() <= 8192 {
+        if print_short(text) {
+            return;
+        }
+    }
+    print_long(text);
+}
+
+fn print_too_long() {
+    let mut out = [0u8; 64];
+    let Written::Bytes(count) = answer_too_long(&mut out) else {
+        never();
+        return;
+    };
+    print_for_long(&out[0..count]);
 }
 
 // Tries one more byte: 0 at the end of the input, 1 where there is one, and a negative number where it can't be read.
@@ -207,12 +227,12 @@ fn main() {
     let count = io::read_full(STDIN_FILENO, &mut buffer);
     let more = read_one_more();
     if more == 0 {
-        answer(&buffer[..count]);
+        print_answer(&buffer[..count]);
         return;
     }
     if 0 < more {
         if count == 65536 {
-            refuse(Refusal::TooLong);
+            print_too_long();
             return;
         }
     }

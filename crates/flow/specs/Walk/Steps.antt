@@ -26,7 +26,7 @@ use Rattle.flow.specs.Walk.Stack.{put-room, put-stacked, into-less, into
 carried-same : (g : Graph) (y : System) (a s q s′ q′ : List ℕ) (e : ℕ) → getD s (fromOf g e) 0 ≡ getD s′ (fromOf g e) 0 → getD q (fromOf g e) 0 ≡ getD q′ (fromOf g e) 0
     → carried g y a s q e ≡ carried g y a s′ q′ e
 carried-same g y a s q s′ q′ e =
-    ap₂ (λ (i j : ℕ). edgeNum (getD (g .ways) e 0) (callNum (getD (g .privileged) n 0) (getD (g .grants) n 0) i) (transNum (getD (g .kinds) n 0) (getD (g .checks) n 0) (getD (g .privileged) n 0) (getD (g .grants) n 0) i (pastNum y (getD (g .checks) n 0) j (has (getD a n 0) (getD (g .checks) n 0)))) (getD (g .grants) (toOf g e) 0))
+    ap₂ (λ (i j : ℕ). edgeNum (getD (g .edges .ways) e 0) (callNum (getD (g .nodes .privileged) n 0) (getD (g .nodes .grants) n 0) i) (transNum (getD (g .nodes .kinds) n 0) (getD (g .nodes .checks) n 0) (getD (g .nodes .privileged) n 0) (getD (g .nodes .grants) n 0) i (pastNum y (getD (g .nodes .checks) n 0) j (has (getD a n 0) (getD (g .nodes .checks) n 0)))) (getD (g .nodes .grants) (toOf g e) 0))
   where
     n : ℕ
     n = fromOf g e
@@ -71,7 +71,7 @@ or-false-right false b e = e
 -- ---- the step
 
 module _ (g : Graph) (y : System) (w a : List ℕ) (setting : Setting g y w a) (x₀ x : State) (n e cur : ℕ) (good₀ : Good g y w (x₀ .ins) (x₀ .past))
-    (h : Sending g y w a x₀ x n (suc e)) (l : e < g .m) (leaves : fromOf g e ≡ n) (v : ℕ) (is : v ≡ carried g y a (x₀ .ins) (x₀ .past) e) (low : v < 2 ^ g .k)
+    (h : Sending g y w a x₀ x n (suc e)) (l : e < g .size .m) (leaves : fromOf g e ≡ n) (v : ℕ) (is : v ≡ carried g y a (x₀ .ins) (x₀ .past) e) (low : v < 2 ^ g .size .k)
     (upper : (d : ℕ) → d < e → fromOf g d ≡ n → d < cur) where
   abbrev b : ℕ
   b = toOf g e
@@ -88,7 +88,7 @@ module _ (g : Graph) (y : System) (w a : List ℕ) (setting : Setting g y w a) (
   abbrev ch : Bool
   ch = changed y (x .ins) (x .past) b v c
 
-  bn : b < g .n
+  bn : b < g .size .n
   bn = rw (to-code g e) at (to-low g (setting .acc) e l)
 
   bs : b < length (x .ins)
@@ -100,7 +100,7 @@ module _ (g : Graph) (y : System) (w a : List ℕ) (setting : Setting g y w a) (
   bd : b < length (x .marks)
   bd = omega (arith, bn, h .sized .marks-long)
 
-  wide : {z : ℕ} → z < 2 ^ g .k → z < 2 ^ 64
+  wide : {z : ℕ} → z < 2 ^ g .size .k → z < 2 ^ 64
   wide u = lt-of-lt-of-le u (pow-mono (setting .acc .shape .ranges .k-high))
 
   same-ins : ch ≡ false → s′ ≡ x .ins
@@ -149,7 +149,7 @@ module _ (g : Graph) (y : System) (w a : List ℕ) (setting : Setting g y w a) (
         same : carried g y a (x .ins) (x .past) d ≡ carried g y a s′ q′ d
         same = carried-same g y a (x .ins) (x .past) s′ q′ d (sym (ins-kept (fromOf g d) o)) (sym (past-kept (fromOf g d) o))
 
-    quiet′ : (d : ℕ) → d < g .m → getD d′ (fromOf g d) 0 ≡ 0 → (fromOf g d ≡ n → cur ≤ d) → Quiet g y w a s′ q′ d
+    quiet′ : (d : ℕ) → d < g .size .m → getD d′ (fromOf g d) 0 ≡ 0 → (fromOf g d ≡ n → cur ≤ d) → Quiet g y w a s′ q′ d
     quiet′ d u o f = go (ℕ-discrete d e)
       where
         go : Dec (d ≡ e) → Quiet g y w a s′ q′ d
@@ -181,7 +181,7 @@ module _ (g : Graph) (y : System) (w a : List ℕ) (setting : Setting g y w a) (
     where
       -- b is marked where a sum of it changed
       zero-stay : fresh (x .marks) (x .stack) (x .top) b ch ≡ false → (z : ℕ) → getD (x .marks) z 0 ≡ 0 → (getD (x .marks) z 0 ≡ 0) × (ch ≡ true → z ≡ b → ⊥)
-      zero-stay f z o = (o, λ t i. let m : getD (x .marks) b 0 ≡ 0 = rw i at o in clash (both t (both (eq-eqb (getD (x .marks) b 0) 0 m) (lt-ltb (x .top) (length (x .stack)) (put-room (g .n) (x .marks) (x .stack) b (x .top) bd m (h .stacked))))) f)
+      zero-stay f z o = (o, λ t i. let m : getD (x .marks) b 0 ≡ 0 = rw i at o in clash (both t (both (eq-eqb (getD (x .marks) b 0) 0 m) (lt-ltb (x .top) (length (x .stack)) (put-room (g .size .n) (x .marks) (x .stack) b (x .top) bd m (h .stacked))))) f)
 
       zero-put : (z : ℕ) → getD (set (x .marks) b 1) z 0 ≡ 0 → (getD (x .marks) z 0 ≡ 0) × (ch ≡ true → z ≡ b → ⊥)
       zero-put z o = by (ℕ-discrete z b)
@@ -207,7 +207,7 @@ module _ (g : Graph) (y : System) (w a : List ℕ) (setting : Setting g y w a) (
         good = good′;
         quiet = quiet′ (set (x .marks) b 1) zero-put;
         own = own′ (set (x .marks) b 1) zero-put;
-        stacked = put-stacked (g .n) (x .marks) (x .stack) b (x .top) bn bd (eqb-true _ 0 (and-left (eqb (getD (x .marks) b 0) 0) _ (and-right ch _ f))) (h .stacked);
+        stacked = put-stacked (g .size .n) (x .marks) (x .stack) b (x .top) bn bd (eqb-true _ 0 (and-left (eqb (getD (x .marks) b 0) 0) _ (and-right ch _ f))) (h .stacked);
         sized = record {
           ins-long = rw (length-set (x .ins) b (merge y (getD (x .ins) b 0) v)) (h .sized .ins-long);
           past-long = rw (length-past y (x .past) b v c) (h .sized .past-long);

@@ -36,11 +36,11 @@ pick false x y p = refl
 
 -- it is what the rule of its kind gives from the sums of its from node
 pub has-carried : (g : Graph) (y : System) (a s q : List ℕ) (e p : ℕ)
-    → has (carried g y a s q e) p ≡ outRule g e p (has (getD s (fromOf g e) 0) p) (has (pastBy (g .checks) y a q (fromOf g e)) p)
+    → has (carried g y a s q e) p ≡ outRule g e p (has (getD s (fromOf g e) 0) p) (has (pastBy (g .nodes .checks) y a q (fromOf g e)) p)
 unfolding outRule callRule transRule edgeNum callNum transNum
 has-carried g y a s q e p =
-    go (eqb (getD (g .ways) e 0) 0) (eqb (getD (g .privileged) n 0) 1) (eqb (getD (g .kinds) n 0) 2) (has (getD (g .grants) n 0) (getD (g .checks) n 0))
-    ∙ sym (rw (isCall-code g e, from-code g e, to-code g e) (rw (isCheck-code g n p, check-code g n p, privileged-code g n p, privileged-code g n (getD (g .checks) n 0), grants-code g n p, grants-code g n (getD (g .checks) n 0), grants-code g (getD (g .tos) e 0) p) refl))
+    go (eqb (getD (g .edges .ways) e 0) 0) (eqb (getD (g .nodes .privileged) n 0) 1) (eqb (getD (g .nodes .kinds) n 0) 2) (has (getD (g .nodes .grants) n 0) (getD (g .nodes .checks) n 0))
+    ∙ sym (rw (isCall-code g e, from-code g e, to-code g e) (rw (isCheck-code g n p, check-code g n p, privileged-code g n p, privileged-code g n (getD (g .nodes .checks) n 0), grants-code g n p, grants-code g n (getD (g .nodes .checks) n 0), grants-code g (getD (g .edges .tos) e 0) p) refl))
   where
     n : ℕ
     n = fromOf g e
@@ -49,13 +49,13 @@ has-carried g y a s q e p =
     i = getD s n 0
 
     o : ℕ
-    o = getD (g .grants) n 0
+    o = getD (g .nodes .grants) n 0
 
     t : ℕ
-    t = getD (g .grants) (toOf g e) 0
+    t = getD (g .nodes .grants) (toOf g e) 0
 
     b : ℕ
-    b = pastBy (g .checks) y a q n
+    b = pastBy (g .nodes .checks) y a q n
 
     go : (w v k h : Bool) → has (cond w (common (cond v o i) t) (cond k (cond v (cond h i empty) b) i)) p
         ≡ cond w (cond v (has o p) (has i p) && has t p) (cond k (cond v (h && has i p) (has b p)) (has i p))
@@ -75,7 +75,7 @@ has-past-sure c q p false = has-empty p
 module _ (g : Graph) where
   -- the sums of a node go no further than closed out sets allow, so neither does what its edges carry
   pub carried-toward : (y : System) (w a s q : List ℕ) → Setting g y w a → Good g y w s q → (z : Outs) → Closed g y w z
-      → (e p : ℕ) → e < g .m → p < g .k → Toward y (has (carried g y a s q e) p) (z e p)
+      → (e p : ℕ) → e < g .size .m → p < g .size .k → Toward y (has (carried g y a s q e) p) (z e p)
   unfolding pastNum
   carried-toward may w a s q set good z closed e p l k =
       λ t.
@@ -90,18 +90,18 @@ module _ (g : Graph) where
       n : ℕ
       n = from g e
 
-      low : n < g .n
+      low : n < g .size .n
       low = from-low g (set .acc) e l
 
       c : ℕ
-      c = getD (g .checks) n 0
+      c = getD (g .nodes .checks) n 0
 
       past : isCheck g n ≡ true → pastSet g (held w) sure z n p ≡ true → has (pastNum sure c (getD q n 0) (has (getD a n 0) c)) p ≡ true
       past i t =
           let r = past-sure g (held w) z n p .0 t in
           let e : check g n ≡ c = check-code g n p in
           let any : has (getD a n 0) c ≡ true = rw e at (set .any n low i .1 (r .passing)) in
-          let c-low : c < g .k = rw e at (check-low g (set .acc) n low i) in
+          let c-low : c < g .size .k = rw e at (check-low g (set .acc) n low i) in
           has-past-sure c (getD q n 0) p (has (getD a n 0) c)
           ∙ rw any
           (by-split (eqb c p)
@@ -110,57 +110,57 @@ module _ (g : Graph) where
 
   -- ---- how sums begin
 
-  module _ (acc : Acceptable g) (n : ℕ) (l : n < g .n) where
-    grants-lt : getD (g .grants) n 0 < 2 ^ g .k
-    grants-lt = below-members (g .k) (getD (g .grants) n 0) .1 ((acc .nodes n l) .grants-below)
+  module _ (acc : Acceptable g) (n : ℕ) (l : n < g .size .n) where
+    grants-lt : getD (g .nodes .grants) n 0 < 2 ^ g .size .k
+    grants-lt = below-members (g .size .k) (getD (g .nodes .grants) n 0) .1 ((acc .nodes n l) .grants-below)
 
   -- the entry mark's out set is the node's grants
-  mark-holds : (z : Outs) (n p : ℕ) → arriving g z n mark p ≡ has (getD (g .grants) n 0) p
+  mark-holds : (z : Outs) (n p : ℕ) → arriving g z n mark p ≡ has (getD (g .nodes .grants) n 0) p
   mark-holds z n p = arriving-mark g z n p ∙ grants-code g n p
 
-  mark-arrives : (n : ℕ) → getD (g .entries) n 0 ≡ 1 → Arrives g n mark
+  mark-arrives : (n : ℕ) → getD (g .nodes .entries) n 0 ≡ 1 → Arrives g n mark
   mark-arrives n e = by-mark (entry-code g n 0 ∙ eq-eqb _ 1 e)
 
-  mark-toward : (y : System) (z : Outs) (n p : ℕ) → getD (g .entries) n 0 ≡ 1 → Toward y (has (getD (g .grants) n 0) p) (inSet g y z n p)
+  mark-toward : (y : System) (z : Outs) (n p : ℕ) → getD (g .nodes .entries) n 0 ≡ 1 → Toward y (has (getD (g .nodes .grants) n 0) p) (inSet g y z n p)
   mark-toward may z n p e = λ t. in-may g z n p .1 (mark, mark-arrives n e, mark-holds z n p ∙ t)
   mark-toward sure z n p e = λ t. sym (mark-holds z n p) ∙ in-sure g z n p .0 t mark (mark-arrives n e)
 
   -- what the entry mark gives to what passes, where it passes
-  mark-past : (y : System) (w : List ℕ) (z : Outs) (n p : ℕ) → getD (g .entries) n 0 ≡ 1 → has (getD (g .grants) n 0) (getD (g .checks) n 0) ≡ true
-      → PastBelow g y w z n p (has (getD (g .grants) n 0) p)
+  mark-past : (y : System) (w : List ℕ) (z : Outs) (n p : ℕ) → getD (g .nodes .entries) n 0 ≡ 1 → has (getD (g .nodes .grants) n 0) (getD (g .nodes .checks) n 0) ≡ true
+      → PastBelow g y w z n p (has (getD (g .nodes .grants) n 0) p)
   mark-past may w z n p e h =
-      λ t. past-may g z z n p .1 (mark, mark-arrives n e, rw (check-code g n p) (mark-holds z n (getD (g .checks) n 0) ∙ h), mark-holds z n p ∙ t)
+      λ t. past-may g z z n p .1 (mark, mark-arrives n e, rw (check-code g n p) (mark-holds z n (getD (g .nodes .checks) n 0) ∙ h), mark-holds z n p ∙ t)
   mark-past sure w z n p e h =
-      λ f. sym (mark-holds z n p) ∙ f mark (mark-arrives n e) (rw (check-code g n p) (mark-holds (held w) n (getD (g .checks) n 0) ∙ h))
+      λ f. sym (mark-holds z n p) ∙ f mark (mark-arrives n e) (rw (check-code g n p) (mark-holds (held w) n (getD (g .nodes .checks) n 0) ∙ h))
 
-  start-past : (y : System) (w : List ℕ) (z : Outs) (n p : ℕ) → g .k ≤ 64 → p < g .k → PastBelow g y w z n p (has (start y (g .k)) p)
-  start-past may w z n p h k = start-first may (g .k) p _ h k
-  start-past sure w z n p h k = λ _. start-first sure (g .k) p true h k refl
+  start-past : (y : System) (w : List ℕ) (z : Outs) (n p : ℕ) → g .size .k ≤ 64 → p < g .size .k → PastBelow g y w z n p (has (start y (g .size .k)) p)
+  start-past may w z n p h k = start-first may (g .size .k) p _ h k
+  start-past sure w z n p h k = λ _. start-first sure (g .size .k) p true h k refl
 
-  module _ (y : System) (acc : Acceptable g) (w s q : List ℕ) (b : Begun y (g .k) (g .n) (g .checks) (g .entries) (g .grants) s q) where
+  module _ (y : System) (acc : Acceptable g) (w s q : List ℕ) (b : Begun y (g .size .k) (g .size .n) (g .nodes .checks) (g .nodes .entries) (g .nodes .grants) s q) where
     pub begun-good : Good g y w s q
     unfolding startIns startPast
     begun-good = record {
-      s-low = λ n l. rw (b .ins n l) (low (eqb (getD (g .entries) n 0) 1) n l);
-      q-low = λ n l. rw (b .past n l) (low (eqb (getD (g .entries) n 0) 1 && has (getD (g .grants) n 0) (getD (g .checks) n 0)) n l);
-      s-entry = λ n p l k e. rw (b .ins n l, eq-eqb (getD (g .entries) n 0) 1 e) (toward-refl y (has (getD (g .grants) n 0) p));
-      q-entry = λ n p l k e h. rw (b .past n l, eq-eqb (getD (g .entries) n 0) 1 e, h) (toward-refl y (has (getD (g .grants) n 0) p));
-      s-below = λ z c n p l k. rw (b .ins n l) (below z n p l k (eqb (getD (g .entries) n 0) 1) refl);
-      q-below = λ z c n p l k. rw (b .past n l) (past-below z n p l k (eqb (getD (g .entries) n 0) 1 && has (getD (g .grants) n 0) (getD (g .checks) n 0)) refl);
+      s-low = λ n l. rw (b .ins n l) (low (eqb (getD (g .nodes .entries) n 0) 1) n l);
+      q-low = λ n l. rw (b .past n l) (low (eqb (getD (g .nodes .entries) n 0) 1 && has (getD (g .nodes .grants) n 0) (getD (g .nodes .checks) n 0)) n l);
+      s-entry = λ n p l k e. rw (b .ins n l, eq-eqb (getD (g .nodes .entries) n 0) 1 e) (toward-refl y (has (getD (g .nodes .grants) n 0) p));
+      q-entry = λ n p l k e h. rw (b .past n l, eq-eqb (getD (g .nodes .entries) n 0) 1 e, h) (toward-refl y (has (getD (g .nodes .grants) n 0) p));
+      s-below = λ z c n p l k. rw (b .ins n l) (below z n p l k (eqb (getD (g .nodes .entries) n 0) 1) refl);
+      q-below = λ z c n p l k. rw (b .past n l) (past-below z n p l k (eqb (getD (g .nodes .entries) n 0) 1 && has (getD (g .nodes .grants) n 0) (getD (g .nodes .checks) n 0)) refl);
     }
       where
-        low : (t : Bool) (n : ℕ) → n < g .n → cond t (getD (g .grants) n 0) (start y (g .k)) < 2 ^ g .k
+        low : (t : Bool) (n : ℕ) → n < g .size .n → cond t (getD (g .nodes .grants) n 0) (start y (g .size .k)) < 2 ^ g .size .k
         low true n l = grants-lt acc n l
-        low false n l = start-lt y (g .k)
+        low false n l = start-lt y (g .size .k)
 
-        below : (z : Outs) (n p : ℕ) → n < g .n → p < g .k → (t : Bool) → eqb (getD (g .entries) n 0) 1 ≡ t
-            → Toward y (has (cond t (getD (g .grants) n 0) (start y (g .k))) p) (inSet g y z n p)
+        below : (z : Outs) (n p : ℕ) → n < g .size .n → p < g .size .k → (t : Bool) → eqb (getD (g .nodes .entries) n 0) 1 ≡ t
+            → Toward y (has (cond t (getD (g .nodes .grants) n 0) (start y (g .size .k))) p) (inSet g y z n p)
         below z n p l k true e = mark-toward y z n p (eqb-true _ 1 e)
-        below z n p l k false e = start-first y (g .k) p (inSet g y z n p) (acc .shape .ranges .k-high) k
+        below z n p l k false e = start-first y (g .size .k) p (inSet g y z n p) (acc .shape .ranges .k-high) k
 
-        past-below : (z : Outs) (n p : ℕ) → n < g .n → p < g .k → (t : Bool) → eqb (getD (g .entries) n 0) 1 && has (getD (g .grants) n 0) (getD (g .checks) n 0) ≡ t
-            → PastBelow g y w z n p (has (cond t (getD (g .grants) n 0) (start y (g .k))) p)
-        past-below z n p l k true e = mark-past y w z n p (eqb-true _ 1 (left _ _ e)) (right (eqb (getD (g .entries) n 0) 1) _ e)
+        past-below : (z : Outs) (n p : ℕ) → n < g .size .n → p < g .size .k → (t : Bool) → eqb (getD (g .nodes .entries) n 0) 1 && has (getD (g .nodes .grants) n 0) (getD (g .nodes .checks) n 0) ≡ t
+            → PastBelow g y w z n p (has (cond t (getD (g .nodes .grants) n 0) (start y (g .size .k))) p)
+        past-below z n p l k true e = mark-past y w z n p (eqb-true _ 1 (left _ _ e)) (right (eqb (getD (g .nodes .entries) n 0) 1) _ e)
         past-below z n p l k false e = start-past y w z n p (acc .shape .ranges .k-high) k
 
 -- ---- an arrival
@@ -173,7 +173,7 @@ set-holds P l b v h x n r = go (ℕ-discrete n b)
     go (yes e) = rw e (rw (getD-set-same l b v 0 h) x)
     go (no d) = rw (getD-set-other l b n v 0 d) r
 
-module _ (g : Graph) (e p : ℕ) (l : e < g .m) (k : p < g .k) where
+module _ (g : Graph) (e p : ℕ) (l : e < g .size .m) (k : p < g .size .k) where
   edge-arrives : Arrives g (toOf g e) (edge e)
   edge-arrives = by-edge e l (to-code g e)
 
@@ -182,7 +182,7 @@ module _ (g : Graph) (e p : ℕ) (l : e < g .m) (k : p < g .k) where
   edge-toward sure z = λ t. sym (arriving-edge g z (toOf g e) e p) ∙ in-sure g z (toOf g e) p .0 t (edge e) edge-arrives
 
   -- where a set v that edge e carries counts at the check of its to node
-  edge-past : (y : System) (w : List ℕ) (z : Outs) (q v : ℕ) → v < 2 ^ g .k → ((p : ℕ) → p < g .k → Toward y (has v p) (z e p)) → counts g y w e v ≡ true
+  edge-past : (y : System) (w : List ℕ) (z : Outs) (q v : ℕ) → v < 2 ^ g .size .k → ((p : ℕ) → p < g .size .k → Toward y (has v p) (z e p)) → counts g y w e v ≡ true
       → PastBelow g y w z (toOf g e) p (has q p) → PastBelow g y w z (toOf g e) p (has (merge y q v) p)
   unfolding judgedNum merge
   edge-past may w z q v low h c f =
@@ -191,50 +191,50 @@ module _ (g : Graph) (e p : ℕ) (l : e < g .m) (k : p < g .k) where
       b : ℕ
       b = toOf g e
 
-      held-check : has v (getD (g .checks) b 0) ≡ true
-      held-check = right (eqb (getD (g .kinds) b 0) 2) (has v (getD (g .checks) b 0)) c
+      held-check : has v (getD (g .nodes .checks) b 0) ≡ true
+      held-check = right (eqb (getD (g .nodes .kinds) b 0) 2) (has v (getD (g .nodes .checks) b 0)) c
 
       own : has v p ≡ true → pastSet g z may z b p ≡ true
       own t =
           past-may g z z b p .1 (
             edge e,
             edge-arrives,
-            rw (check-code g b p) (arriving-edge g z b e (getD (g .checks) b 0) ∙ h (getD (g .checks) b 0) (below-members (g .k) v .0 low _ held-check) held-check),
+            rw (check-code g b p) (arriving-edge g z b e (getD (g .nodes .checks) b 0) ∙ h (getD (g .nodes .checks) b 0) (below-members (g .size .k) v .0 low _ held-check) held-check),
             arriving-edge g z b e p ∙ h p k t,
           )
   edge-past sure w z q v low h c f =
       λ all.
       has-common q v p
       ∙ both (f all)
-      (h p k (sym (arriving-edge g z b e p) ∙ all (edge e) edge-arrives (rw (check-code g b p) (arriving-edge g (held w) b e (getD (g .checks) b 0) ∙ right (eqb (getD (g .kinds) b 0) 2) (has (getD w e 0) (getD (g .checks) b 0)) c))))
+      (h p k (sym (arriving-edge g z b e p) ∙ all (edge e) edge-arrives (rw (check-code g b p) (arriving-edge g (held w) b e (getD (g .nodes .checks) b 0) ∙ right (eqb (getD (g .nodes .kinds) b 0) 2) (has (getD w e 0) (getD (g .nodes .checks) b 0)) c))))
     where
       b : ℕ
       b = toOf g e
 
-module _ (g : Graph) (y : System) (w s q : List ℕ) (good : Good g y w s q) (e v : ℕ) (l : e < g .m) (low : v < 2 ^ g .k)
-    (toward : (z : Outs) → Closed g y w z → (p : ℕ) → p < g .k → Toward y (has v p) (z e p)) (bs : toOf g e < length s) (bq : toOf g e < length q) (bn : toOf g e < g .n) where
+module _ (g : Graph) (y : System) (w s q : List ℕ) (good : Good g y w s q) (e v : ℕ) (l : e < g .size .m) (low : v < 2 ^ g .size .k)
+    (toward : (z : Outs) → Closed g y w z → (p : ℕ) → p < g .size .k → Toward y (has v p) (z e p)) (bs : toOf g e < length s) (bq : toOf g e < length q) (bn : toOf g e < g .size .n) where
   abbrev b : ℕ
   b = toOf g e
 
   pub arrive-good : (counted : Bool) → counted ≡ counts g y w e v → Good g y w (into y s b v) (cond counted (into y q b v) q)
   arrive-good counted c = record {
-    s-low = λ n h. set-holds (λ (_ x : ℕ). x < 2 ^ g .k) s b _ bs (merge-lt y (g .k) (getD s b 0) v (good .s-low b bn) low) n (good .s-low n h);
-    s-entry = λ n p h k i. set-holds (λ (m x : ℕ). (getD (g .entries) m 0 ≡ 1 → Toward y (has (getD (g .grants) m 0) p) (has x p))) s b _ bs (λ i. toward-trans y _ _ _ (good .s-entry b p bn k i) (merge-left (getD s b 0) v p y)) n (good .s-entry n p h k) i;
+    s-low = λ n h. set-holds (λ (_ x : ℕ). x < 2 ^ g .size .k) s b _ bs (merge-lt y (g .size .k) (getD s b 0) v (good .s-low b bn) low) n (good .s-low n h);
+    s-entry = λ n p h k i. set-holds (λ (m x : ℕ). (getD (g .nodes .entries) m 0 ≡ 1 → Toward y (has (getD (g .nodes .grants) m 0) p) (has x p))) s b _ bs (λ i. toward-trans y _ _ _ (good .s-entry b p bn k i) (merge-left (getD s b 0) v p y)) n (good .s-entry n p h k) i;
     s-below = λ z cl n p h k. set-holds (λ (m x : ℕ). Toward y (has x p) (inSet g y z m p)) s b _ bs (merge-both (getD s b 0) v p y _ (good .s-below z cl b p bn k) (toward-trans y _ _ _ (toward z cl p k) (edge-toward g e p l k y z))) n (good .s-below z cl n p h k);
     q-low = λ n h. past-low counted n h;
     q-entry = λ n p h k i o. past-entry counted n p h k i o;
     q-below = λ z cl n p h k. past-below counted c z cl n p h k;
   }
     where
-      past-low : (t : Bool) (n : ℕ) → n < g .n → getD (cond t (into y q b v) q) n 0 < 2 ^ g .k
-      past-low true n h = set-holds (λ (_ x : ℕ). x < 2 ^ g .k) q b _ bq (merge-lt y (g .k) (getD q b 0) v (good .q-low b bn) low) n (good .q-low n h)
+      past-low : (t : Bool) (n : ℕ) → n < g .size .n → getD (cond t (into y q b v) q) n 0 < 2 ^ g .size .k
+      past-low true n h = set-holds (λ (_ x : ℕ). x < 2 ^ g .size .k) q b _ bq (merge-lt y (g .size .k) (getD q b 0) v (good .q-low b bn) low) n (good .q-low n h)
       past-low false n h = good .q-low n h
 
-      past-entry : (t : Bool) (n p : ℕ) → n < g .n → p < g .k → getD (g .entries) n 0 ≡ 1 → has (getD (g .grants) n 0) (getD (g .checks) n 0) ≡ true
-          → Toward y (has (getD (g .grants) n 0) p) (has (getD (cond t (into y q b v) q) n 0) p)
-      past-entry true n p h k i o = set-holds (λ (m x : ℕ). (getD (g .entries) m 0 ≡ 1 → has (getD (g .grants) m 0) (getD (g .checks) m 0) ≡ true → Toward y (has (getD (g .grants) m 0) p) (has x p))) q b _ bq (λ i o. toward-trans y _ _ _ (good .q-entry b p bn k i o) (merge-left (getD q b 0) v p y)) n (good .q-entry n p h k) i o
+      past-entry : (t : Bool) (n p : ℕ) → n < g .size .n → p < g .size .k → getD (g .nodes .entries) n 0 ≡ 1 → has (getD (g .nodes .grants) n 0) (getD (g .nodes .checks) n 0) ≡ true
+          → Toward y (has (getD (g .nodes .grants) n 0) p) (has (getD (cond t (into y q b v) q) n 0) p)
+      past-entry true n p h k i o = set-holds (λ (m x : ℕ). (getD (g .nodes .entries) m 0 ≡ 1 → has (getD (g .nodes .grants) m 0) (getD (g .nodes .checks) m 0) ≡ true → Toward y (has (getD (g .nodes .grants) m 0) p) (has x p))) q b _ bq (λ i o. toward-trans y _ _ _ (good .q-entry b p bn k i o) (merge-left (getD q b 0) v p y)) n (good .q-entry n p h k) i o
       past-entry false n p h k i o = good .q-entry n p h k i o
 
-      past-below : (t : Bool) → t ≡ counts g y w e v → (z : Outs) → Closed g y w z → (n p : ℕ) → n < g .n → p < g .k → PastBelow g y w z n p (has (getD (cond t (into y q b v) q) n 0) p)
+      past-below : (t : Bool) → t ≡ counts g y w e v → (z : Outs) → Closed g y w z → (n p : ℕ) → n < g .size .n → p < g .size .k → PastBelow g y w z n p (has (getD (cond t (into y q b v) q) n 0) p)
       past-below true c z cl n p h k = set-holds (λ (m x : ℕ). PastBelow g y w z m p (has x p)) q b _ bq (edge-past g e p l k y w z (getD q b 0) v low (toward z cl) (sym c) (good .q-below z cl b p bn k)) n (good .q-below z cl n p h k)
       past-below false c z cl n p h k = good .q-below z cl n p h k

@@ -1,4 +1,4 @@
-use Rattle.graph.specs.Graph.{EdgeAt}
+use Rattle.graph.specs.Graph.{edgesOf, EdgeAt}
 use Rattle.truth.specs.Truth.Tests.{says-true, says-false, Passed, passed-none, passed-more, passed-stop, passed-end}
 use borrow.Author.Tests.{not-true, not-false}
 use borrow.Author.Needs.{needs}
@@ -7,7 +7,7 @@ use Rattle.graph.proofs.first_bad_edge.Statement.{statement}
 use Rattle.graph.proofs.first_bad_edge.Tie as tie
 
 abbrev Inv-loop : tie.InvT-loop
-Inv-loop n m kinds grants froms tos ways e₀ e = Passed (EdgeAt n kinds grants froms tos ways) m e
+Inv-loop n m kinds grants froms tos ways e₀ e = Passed (EdgeAt n kinds grants (edgesOf froms tos ways)) m e
 
 abbrev μ-loop : tie.MeasureT-loop
 μ-loop n m kinds grants froms tos ways e₀ e = m - e

@@ -1,4 +1,4 @@
-use Rattle.graph.specs.Graph.{NodeAt}
+use Rattle.graph.specs.Graph.{nodesOf, NodesAt}
 use Rattle.truth.specs.Truth.Tests.{says-true, says-false, Passed, passed-none, passed-more, passed-stop, passed-end}
 use borrow.Author.Tests.{not-true, not-false}
 use borrow.Author.Needs.{needs}
@@ -7,7 +7,7 @@ use Rattle.graph.proofs.first_bad_node.Statement.{statement}
 use Rattle.graph.proofs.first_bad_node.Tie as tie
 
 abbrev Inv-loop : tie.InvT-loop
-Inv-loop k n kinds checks privileged entries grants i₀ i = Passed (NodeAt k kinds checks privileged entries grants) n i
+Inv-loop k n kinds checks privileged entries grants i₀ i = Passed (NodesAt k (nodesOf kinds checks privileged entries grants)) n i
 
 abbrev μ-loop : tie.MeasureT-loop
 μ-loop k n kinds checks privileged entries grants i₀ i = n - i

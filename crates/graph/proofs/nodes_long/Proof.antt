@@ -17,7 +17,7 @@ returns-4 : tie.Need-returns-4
 returns-4 c = fails (λ p. omega arith)
 
 returns-5 : tie.Need-returns-5
-returns-5 c = says-same (eq? _ _) (λ e. record { kinds-long = omega arith; checks-long = omega arith; privileged-long = omega arith; entries-long = omega arith; grants-long = e }) (λ p. p .grants-long)
+returns-5 c = says-same (eq? _ _) (λ e. record { kinds = omega arith; checks = omega arith; privileged = omega arith; entries = omega arith; grants = e }) (λ p. p .grants)
 
 pub nodes-long-spec : {M : Type 1} → statement M
 nodes-long-spec = tie.close (tie.spec returns returns-2 returns-3 returns-4 returns-5)

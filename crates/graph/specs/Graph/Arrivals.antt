@@ -13,23 +13,23 @@ use Rattle.graph.specs.Graph.{Graph, entry, grants, to, Outs, Arrival, m
 -- a arrives at n
 pub data Arrives (g : Graph) (n : ℕ) : Arrival → Type 0 where
   by-mark : entry g n ≡ true → Arrives g n mark
-  by-edge : (e : ℕ) → e < g .m → to g e ≡ n → Arrives g n (edge e)
+  by-edge : (e : ℕ) → e < g .size .m → to g e ≡ n → Arrives g n (edge e)
 
 module _ (g : Graph) (n : ℕ) (f : Arrival → Bool) where
   pub some-arrives : (a : Arrival) → Arrives g n a → f a ≡ true → someArrival g n f ≡ true
   unfolding someArrival
   some-arrives a (by-mark m) t = or-left _ (both m t)
   some-arrives a (by-edge e h q) t =
-      or-right (entry g n && f mark) (some-intro (g .m) (λ e. eqb (to g e) n && f (edge e)) e h (both (eq-eqb (to g e) n q) t))
+      or-right (entry g n && f mark) (some-intro (g .size .m) (λ e. eqb (to g e) n && f (edge e)) e h (both (eq-eqb (to g e) n q) t))
 
   pub arrives-some : someArrival g n f ≡ true → (a : Arrival) × Arrives g n a × (f a ≡ true)
   unfolding someArrival
   arrives-some t = go (either (entry g n && f mark) _ t)
     where
-      go : (entry g n && f mark ≡ true) ⊎ (some (g .m) (λ e. eqb (to g e) n && f (edge e)) ≡ true) → (a : Arrival) × Arrives g n a × (f a ≡ true)
+      go : (entry g n && f mark ≡ true) ⊎ (some (g .size .m) (λ e. eqb (to g e) n && f (edge e)) ≡ true) → (a : Arrival) × Arrives g n a × (f a ≡ true)
       go (inl u) = (mark, by-mark (left (entry g n) (f mark) u), right (entry g n) (f mark) u)
       go (inr u) =
-          let r = some-elim (g .m) (λ e. eqb (to g e) n && f (edge e)) u in
+          let r = some-elim (g .size .m) (λ e. eqb (to g e) n && f (edge e)) u in
           let e = r .0 in
           (edge e, by-edge e (r .1) (eqb-true (to g e) n (left (eqb (to g e) n) (f (edge e)) (r .2))), right (eqb (to g e) n) (f (edge e)) (r .2))
 
@@ -37,13 +37,13 @@ module _ (g : Graph) (n : ℕ) (f : Arrival → Bool) where
   unfolding everyArrival
   every-arrives h =
       both (when (entry g n) (f mark) (λ m. h mark (by-mark m)))
-      (every-intro (g .m) (λ e. eqb (to g e) n ⇒ f (edge e)) (λ e l. when (eqb (to g e) n) (f (edge e)) (λ q. h (edge e) (by-edge e l (eqb-true (to g e) n q)))))
+      (every-intro (g .size .m) (λ e. eqb (to g e) n ⇒ f (edge e)) (λ e l. when (eqb (to g e) n) (f (edge e)) (λ q. h (edge e) (by-edge e l (eqb-true (to g e) n q)))))
 
   pub arrives-every : everyArrival g n f ≡ true → (a : Arrival) → Arrives g n a → f a ≡ true
   unfolding everyArrival
   arrives-every t a (by-mark m) = given (entry g n) (f mark) (left _ _ t) m
   arrives-every t a (by-edge e h q) =
-      given (eqb (to g e) n) (f (edge e)) (every-elim (g .m) (λ e. eqb (to g e) n ⇒ f (edge e)) (right (entry g n ⇒ f mark) _ t) e h) (eq-eqb (to g e) n q)
+      given (eqb (to g e) n) (f (edge e)) (every-elim (g .size .m) (λ e. eqb (to g e) n ⇒ f (edge e)) (right (entry g n ⇒ f mark) _ t) e h) (eq-eqb (to g e) n q)
 
 module _ (g : Graph) (n : ℕ) (f f′ : Arrival → Bool) (h : (a : Arrival) → Arrives g n a → f a ≡ true → f′ a ≡ true) where
   pub some-mono : someArrival g n f ≡ true → someArrival g n f′ ≡ true

@@ -4,10 +4,11 @@ use mathlib.Core.Path.{_≡_, refl, sym, _∙_}
 use mathlib.Core.Logic.{_↔_, _⊎_, inl, inr}
 use mathlib.Core.Bool.{Bool, true, false, cond, _&&_, _||_}
 use lib.Dec.{eqb}
-use borrow.Author.Tests.{eqb-true, eqb-false}
+use native.Mathlib.Omega.{arith}
+use borrow.Author.Tests.{eqb-true, eqb-false, eq-eqb, ne-eqb}
 use Rattle.truth.specs.Truth.{_⇒_}
 use Rattle.truth.specs.Truth.Bools.{by-split, both, left, right, either, or-left, or-right, given, when}
-use Rattle.graph.specs.Graph.{Graph, isCheck, check, privileged, grants, from, to, isCall, System, may, sure, Outs, Arrival, arriving, someArrival, everyArrival, inSet, callSet, pastSet, transSet, outSet}
+use Rattle.graph.specs.Graph.{Graph, isCheck, check, privileged, grants, from, to, way, isCall, System, may, sure, Outs, Arrival, arriving, someArrival, everyArrival, inSet, callSet, pastSet, transSet, outSet}
 use Rattle.graph.specs.Graph.Arrivals.{Arrives, some-arrives, arrives-some, every-arrives, arrives-every}
 
 -- ---- in(n)
@@ -83,31 +84,39 @@ module _ (g : Graph) (w x : Outs) (n p : ℕ) where
 -- ---- each kind of edge
 
 module _ (g : Graph) (w : Outs) (y : System) (x : Outs) (e p : ℕ) where
-  pub call-edge : isCall g e ≡ true → (outSet g w y x e p ≡ true) ↔ ((callSet g y x (from g e) p ≡ true) × (grants g (to g e) p ≡ true))
+  by-call : way g e ≡ 0 → isCall g e ≡ true
+  unfolding isCall
+  by-call c = eq-eqb (way g e) 0 c
+
+  by-transfer : way g e ≡ 1 → isCall g e ≡ false
+  unfolding isCall
+  by-transfer c = ne-eqb (way g e) 0 (λ z. omega (arith, c, z))
+
+  pub call-edge : way g e ≡ 0 → (outSet g w y x e p ≡ true) ↔ ((callSet g y x (from g e) p ≡ true) × (grants g (to g e) p ≡ true))
   unfolding outSet
   call-edge c = (
-    (λ t. let u : callSet g y x (from g e) p && grants g (to g e) p ≡ true = rw c at t in (left _ _ u, right (callSet g y x (from g e) p) _ u)),
-    λ r. rw c (both (r .0) (r .1)),
+    (λ t. let u : callSet g y x (from g e) p && grants g (to g e) p ≡ true = rw (by-call c) at t in (left _ _ u, right (callSet g y x (from g e) p) _ u)),
+    λ r. rw (by-call c) (both (r .0) (r .1)),
   )
 
   -- a transfer edge that leaves no check
-  pub transfer-plain : isCall g e ≡ false → isCheck g (from g e) ≡ false → (outSet g w y x e p ≡ true) ↔ (inSet g y x (from g e) p ≡ true)
+  pub transfer-plain : way g e ≡ 1 → isCheck g (from g e) ≡ false → (outSet g w y x e p ≡ true) ↔ (inSet g y x (from g e) p ≡ true)
   unfolding outSet transSet
-  transfer-plain c k = ((λ t. rw (c, k) at t), λ t. rw (c, k) t)
+  transfer-plain c k = ((λ t. rw (by-transfer c, k) at t), λ t. rw (by-transfer c, k) t)
 
   -- a transfer edge that leaves a privileged check
-  pub transfer-privileged : isCall g e ≡ false → isCheck g (from g e) ≡ true → privileged g (from g e) (check g (from g e)) ≡ true
+  pub transfer-privileged : way g e ≡ 1 → isCheck g (from g e) ≡ true → privileged g (from g e) (check g (from g e)) ≡ true
       → (outSet g w y x e p ≡ true) ↔ ((grants g (from g e) (check g (from g e)) ≡ true) × (inSet g y x (from g e) p ≡ true))
   unfolding outSet transSet
   transfer-privileged c k v = (
     (λ t.
-        let u : grants g (from g e) (check g (from g e)) && inSet g y x (from g e) p ≡ true = rw (c, k, v) at t in
+        let u : grants g (from g e) (check g (from g e)) && inSet g y x (from g e) p ≡ true = rw (by-transfer c, k, v) at t in
         (left _ _ u, right (grants g (from g e) (check g (from g e))) _ u)),
-    λ r. rw (c, k, v) (both (r .0) (r .1)),
+    λ r. rw (by-transfer c, k, v) (both (r .0) (r .1)),
   )
 
   -- a transfer edge that leaves an unprivileged check
-  pub transfer-past : isCall g e ≡ false → isCheck g (from g e) ≡ true → privileged g (from g e) (check g (from g e)) ≡ false
+  pub transfer-past : way g e ≡ 1 → isCheck g (from g e) ≡ true → privileged g (from g e) (check g (from g e)) ≡ false
       → (outSet g w y x e p ≡ true) ↔ (pastSet g w y x (from g e) p ≡ true)
   unfolding outSet transSet
-  transfer-past c k v = ((λ t. rw (c, k, v) at t), λ t. rw (c, k, v) t)
+  transfer-past c k v = ((λ t. rw (by-transfer c, k, v) at t), λ t. rw (by-transfer c, k, v) t)

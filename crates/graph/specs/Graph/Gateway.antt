@@ -5,14 +5,14 @@ use mathlib.Core.List.{[], _∷_}
 use Rattle.truth.specs.Truth.{first, some, every}
 use Rattle.sets.specs.Sets.Code.{has-code}
 use Rattle.sets.specs.Sets.Pack.{pack}
-use Rattle.graph.specs.Graph.{Graph, graphOf, kind, isCheck, check, privileged, entry, grants, from, to, way, isCall, Acceptable, arriving, someArrival, everyArrival, inSet, callSet, pastSet, transSet, outSet, deniedSet, grantedSet, Slices, Content}
+use Rattle.graph.specs.Graph.{Graph, graphOf, sizeOf, kind, isCheck, check, privileged, entry, grants, from, to, way, isCall, Acceptable, arriving, someArrival, everyArrival, inSet, callSet, pastSet, transSet, outSet, deniedSet, grantedSet, Slices, Content}
 use Rattle.graph.specs.Graph.Rounds.{sheet, written, rounds, mayRounds}
 use Rattle.graph.specs.Graph.Tables.{Computed, computed-accepted, computed-content, computed-one}
 use Rattle.graph.specs.Judge.{shapeTest, nodeTest, edgeTest, noEntry, judge}
 
 abbrev pub gateway : Graph
 gateway =
-    graphOf 2 8 8
+    graphOf (sizeOf 2 8 8)
     (0 ∷ 0 ∷ 2 ∷ 1 ∷ 0 ∷ 2 ∷ 1 ∷ 1 ∷ [])
     (0 ∷ 0 ∷ 0 ∷ 0 ∷ 0 ∷ 0 ∷ 0 ∷ 0 ∷ [])
     (0 ∷ 0 ∷ 0 ∷ 0 ∷ 1 ∷ 0 ∷ 0 ∷ 0 ∷ [])

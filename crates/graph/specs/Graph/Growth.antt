@@ -60,36 +60,36 @@ bit-one true = omega arith
 bit-one false = zero-le
 
 size : Graph → Outs → ℕ
-size g x = total (g .m) (λ e. total (g .k) (λ p. bit (x e p)))
+size g x = total (g .size .m) (λ e. total (g .size .k) (λ p. bit (x e p)))
 
-size-bound : (g : Graph) (x : Outs) → size g x ≤ g .m * g .k
+size-bound : (g : Graph) (x : Outs) → size g x ≤ g .size .m * g .size .k
 unfolding size
 size-bound g x =
-    total-bound (g .m) (g .k) _ (λ e l. le-trans (total-bound (g .k) 1 (λ p. bit (x e p)) (λ p k. bit-one (x e p))) (omega arith))
+    total-bound (g .size .m) (g .size .k) _ (λ e l. le-trans (total-bound (g .size .k) 1 (λ p. bit (x e p)) (λ p k. bit-one (x e p))) (omega arith))
 
-size-lt : (g : Graph) (x y : Outs) → Within g x y → (e p : ℕ) → e < g .m → p < g .k → x e p ≡ false → y e p ≡ true → size g x < size g y
+size-lt : (g : Graph) (x y : Outs) → Within g x y → (e p : ℕ) → e < g .size .m → p < g .size .k → x e p ≡ false → y e p ≡ true → size g x < size g y
 unfolding size
 size-lt g x y h e p l k f t =
-    total-lt (g .m) (λ e. total (g .k) (λ p. bit (x e p))) (λ e. total (g .k) (λ p. bit (y e p)))
-    (λ d u. total-le (g .k) (λ p. bit (x d p)) (λ p. bit (y d p)) (λ q j. bit-le (x d q) (y d q) (h d q u j))) e l
-    (total-lt (g .k) (λ p. bit (x e p)) (λ p. bit (y e p)) (λ q j. bit-le (x e q) (y e q) (h e q l j)) p k (bit-lt (x e p) (y e p) f t))
+    total-lt (g .size .m) (λ e. total (g .size .k) (λ p. bit (x e p))) (λ e. total (g .size .k) (λ p. bit (y e p)))
+    (λ d u. total-le (g .size .k) (λ p. bit (x d p)) (λ p. bit (y d p)) (λ q j. bit-le (x d q) (y d q) (h d q u j))) e l
+    (total-lt (g .size .k) (λ p. bit (x e p)) (λ p. bit (y e p)) (λ q j. bit-le (x e q) (y e q) (h e q l j)) p k (bit-lt (x e p) (y e p) f t))
 
 -- ---- a step brings something new, or the chain is at rest
 
 news : Graph → Outs → Outs → Bool
-news g x y = some (g .m) (λ e. some (g .k) (λ p. y e p && not (x e p)))
+news g x y = some (g .size .m) (λ e. some (g .size .k) (λ p. y e p && not (x e p)))
 
 no-news : (g : Graph) (x y : Outs) → news g x y ≡ false → Within g y x
 unfolding news
 no-news g x y f e p l k t =
     by-split (x e p) (λ u. u)
-    (λ u. clash (some-intro (g .m) (λ e. some (g .k) (λ p. y e p && not (x e p))) e l (some-intro (g .k) (λ p. y e p && not (x e p)) p k (both t (ap not u)))) f)
+    (λ u. clash (some-intro (g .size .m) (λ e. some (g .size .k) (λ p. y e p && not (x e p))) e l (some-intro (g .size .k) (λ p. y e p && not (x e p)) p k (both t (ap not u)))) f)
 
 some-news : (g : Graph) (x y : Outs) → Within g x y → news g x y ≡ true → size g x < size g y
 unfolding news
 some-news g x y h t =
-    let r = some-elim (g .m) (λ e. some (g .k) (λ p. y e p && not (x e p))) t in
-    let q = some-elim (g .k) (λ p. y (r .0) p && not (x (r .0) p)) (r .2) in
+    let r = some-elim (g .size .m) (λ e. some (g .size .k) (λ p. y e p && not (x e p))) t in
+    let q = some-elim (g .size .k) (λ p. y (r .0) p && not (x (r .0) p)) (r .2) in
     size-lt g x y h (r .0) (q .0) (r .1) (q .1) (not-true (x (r .0) (q .0)) (right (y (r .0) (q .0)) (not (x (r .0) (q .0))) (q .2))) (left (y (r .0) (q .0)) (not (x (r .0) (q .0))) (q .2))
 
 module _ (g : Graph) (x : ℕ → Outs) (grows : (i : ℕ) → Within g (x i) (x (suc i))) where
@@ -106,8 +106,8 @@ module _ (g : Graph) (x : ℕ → Outs) (grows : (i : ℕ) → Within g (x i) (x
       go (inr s) (inl t) = inr (omega (arith, some-news g (x n) (x (suc n)) (grows n) t))
       go (inr s) (inr f) = inl (n, omega arith, no-news g (x n) (x (suc n)) f)
 
-  pub rests : (j : ℕ) × (j ≤ g .m * g .k) × Within g (x (suc j)) (x j)
+  pub rests : (j : ℕ) × (j ≤ g .size .m * g .size .k) × Within g (x (suc j)) (x j)
   unfolding Rest
   rests =
-      ⊎-elim (λ r. (r .0, omega (arith, r .1), r .2)) (λ s. absurd (omega (arith, size-bound g (x (suc (g .m * g .k))))))
-      (rest-or-size (suc (g .m * g .k)))
+      ⊎-elim (λ r. (r .0, omega (arith, r .1), r .2)) (λ s. absurd (omega (arith, size-bound g (x (suc (g .size .m * g .size .k))))))
+      (rest-or-size (suc (g .size .m * g .size .k)))

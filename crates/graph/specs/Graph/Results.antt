@@ -24,21 +24,21 @@ stored-one k n l l′ a b h =
 
 module _ (g : Graph) {s t : Slices} (a : Content g s) (b : Content g t) where
   may-same : s .mayOut ≡ t .mayOut
-  may-same = stored-one (g .k) (g .m) (s .mayOut) (t .mayOut) (a .may-stored) (b .may-stored) (may-one g (held (s .mayOut)) (held (t .mayOut)) (a .least) (b .least))
+  may-same = stored-one (g .size .k) (g .size .m) (s .mayOut) (t .mayOut) (a .may-stored) (b .may-stored) (may-one g (held (s .mayOut)) (held (t .mayOut)) (a .least) (b .least))
 
   sure-same : s .sureOut ≡ t .sureOut
   sure-same =
       let c : GreatestSure g (held (s .mayOut)) (held (t .sureOut)) = rw (sym may-same) at (b .greatest) in
-      stored-one (g .k) (g .m) (s .sureOut) (t .sureOut) (a .sure-stored) (b .sure-stored) (sure-one g (held (s .mayOut)) (held (s .sureOut)) (held (t .sureOut)) (a .greatest) c)
+      stored-one (g .size .k) (g .size .m) (s .sureOut) (t .sureOut) (a .sure-stored) (b .sure-stored) (sure-one g (held (s .mayOut)) (held (s .sureOut)) (held (t .sureOut)) (a .greatest) c)
 
   denied-same : s .denied ≡ t .denied
   denied-same =
-      stored-one (g .k) (g .n) (s .denied) (t .denied) (a .denied-stored) (b .denied-stored)
+      stored-one (g .size .k) (g .size .n) (s .denied) (t .denied) (a .denied-stored) (b .denied-stored)
       (λ n p l k. a .denies n p l k ∙ ap (λ (x : List ℕ). deniedSet g (held x) n p) may-same ∙ sym (b .denies n p l k))
 
   granted-same : s .granted ≡ t .granted
   granted-same =
-      stored-one (g .k) (g .n) (s .granted) (t .granted) (a .granted-stored) (b .granted-stored)
+      stored-one (g .size .k) (g .size .n) (s .granted) (t .granted) (a .granted-stored) (b .granted-stored)
       (λ n p l k. a .grants n p l k ∙ ap (λ (x : List ℕ). grantedSet g (held x) n p) sure-same ∙ sym (b .grants n p l k))
 
   pub content-one : s ≡ t
@@ -53,31 +53,31 @@ stored-written k n x = record {
   below = λ i p l t. below-members k (pack k (x i)) .0 (pack-lt k (x i)) p (rw (getD-sheet n (λ i. pack k (x i)) i l) at t);
 }
 
-stored-rounds : (g : Graph) (f : Outs → Outs) (b : Bool) (j : ℕ) → Stored (g .k) (g .m) (rounds g f b j)
+stored-rounds : (g : Graph) (f : Outs → Outs) (b : Bool) (j : ℕ) → Stored (g .size .k) (g .size .m) (rounds g f b j)
 unfolding rounds
-stored-rounds g f b zero = stored-written (g .k) (g .m) (λ _ _. b)
-stored-rounds g f b (suc j) = stored-written (g .k) (g .m) (f (held (rounds g f b j)))
+stored-rounds g f b zero = stored-written (g .size .k) (g .size .m) (λ _ _. b)
+stored-rounds g f b (suc j) = stored-written (g .size .k) (g .size .m) (f (held (rounds g f b j)))
 
 -- the four slices that go with stored out sets
 abbrev pub slicesOf : Graph → (may sure : List ℕ) → Slices
 slicesOf g m s = record {
-  denied = written (g .k) (g .n) (deniedSet g (held m));
-  granted = written (g .k) (g .n) (grantedSet g (held s));
+  denied = written (g .size .k) (g .size .n) (deniedSet g (held m));
+  granted = written (g .size .k) (g .size .n) (grantedSet g (held s));
   mayOut = m;
   sureOut = s;
 }
 
 module _ (g : Graph) (acc : Acceptable g) where
-  pub content-of : (m s : List ℕ) → Stored (g .k) (g .m) m → Stored (g .k) (g .m) s → LeastClosed g (held m) → GreatestBacked g (held m) (held s) → Content g (slicesOf g m s)
+  pub content-of : (m s : List ℕ) → Stored (g .size .k) (g .size .m) m → Stored (g .size .k) (g .size .m) s → LeastClosed g (held m) → GreatestBacked g (held m) (held s) → Content g (slicesOf g m s)
   content-of m s hm hs lm gs = record {
-    denied-stored = stored-written (g .k) (g .n) (deniedSet g (held m));
-    granted-stored = stored-written (g .k) (g .n) (grantedSet g (held s));
+    denied-stored = stored-written (g .size .k) (g .size .n) (deniedSet g (held m));
+    granted-stored = stored-written (g .size .k) (g .size .n) (grantedSet g (held s));
     may-stored = hm;
     sure-stored = hs;
     least = least-closed g acc (held m) .1 lm;
     greatest = greatest-backed g (held m) (held s) .1 gs;
-    denies = held-written (g .k) (g .n) (deniedSet g (held m));
-    grants = held-written (g .k) (g .n) (grantedSet g (held s));
+    denies = held-written (g .size .k) (g .size .n) (deniedSet g (held m));
+    grants = held-written (g .size .k) (g .size .n) (grantedSet g (held s));
   }
 
   -- rounds that are at rest give it

@@ -55,8 +55,8 @@ written-same k n x y h = sheet-same n _ _ (λ i l. pack-same k (x i) (y i) (λ p
 
 -- rounds of f from out sets that hold all, or none
 unfoldable pub rounds : Graph → (Outs → Outs) → Bool → ℕ → List ℕ
-rounds g f b zero = written (g .k) (g .m) (λ _ _. b)
-rounds g f b (suc i) = written (g .k) (g .m) (f (held (rounds g f b i)))
+rounds g f b zero = written (g .size .k) (g .size .m) (λ _ _. b)
+rounds g f b (suc i) = written (g .size .k) (g .size .m) (f (held (rounds g f b i)))
 
 -- how far x has come from where it began: what was added to none, or taken from all
 gone : Bool → Outs → Outs
@@ -66,17 +66,17 @@ module _ (g : Graph) (f : Outs → Outs) (b : Bool) (mono : (x y : Outs) → Wit
   R : ℕ → Outs
   R i = held (rounds g f b i)
 
-  start : (e p : ℕ) → e < g .m → p < g .k → gone b (R zero) e p ≡ false
+  start : (e p : ℕ) → e < g .size .m → p < g .size .k → gone b (R zero) e p ≡ false
   unfolding R rounds gone
-  start e p l k = go b (held-written (g .k) (g .m) (λ _ _. b) e p l k)
+  start e p l k = go b (held-written (g .size .k) (g .size .m) (λ _ _. b) e p l k)
     where
-      go : (c : Bool) → held (written (g .k) (g .m) (λ _ _. b)) e p ≡ c → cond c (not (held (written (g .k) (g .m) (λ _ _. b)) e p)) (held (written (g .k) (g .m) (λ _ _. b)) e p) ≡ false
+      go : (c : Bool) → held (written (g .size .k) (g .size .m) (λ _ _. b)) e p ≡ c → cond c (not (held (written (g .size .k) (g .size .m) (λ _ _. b)) e p)) (held (written (g .size .k) (g .size .m) (λ _ _. b)) e p) ≡ false
       go true t = ap not t
       go false t = t
 
-  next : (i e p : ℕ) → e < g .m → p < g .k → gone b (R (suc i)) e p ≡ gone b (f (R i)) e p
+  next : (i e p : ℕ) → e < g .size .m → p < g .size .k → gone b (R (suc i)) e p ≡ gone b (f (R i)) e p
   unfolding R rounds gone
-  next i e p l k = ap (λ (t : Bool). cond b (not t) t) (held-written (g .k) (g .m) (f (held (rounds g f b i))) e p l k)
+  next i e p l k = ap (λ (t : Bool). cond b (not t) t) (held-written (g .size .k) (g .size .m) (f (held (rounds g f b i))) e p l k)
 
   -- the rounds stay within whatever is closed
   rounds-below : (z : Outs) → Within g (gone b (f z)) (gone b z) → (i : ℕ) → Within g (gone b (R i)) (gone b z)
@@ -88,10 +88,10 @@ module _ (g : Graph) (f : Outs → Outs) (b : Bool) (mono : (x y : Outs) → Wit
   rounds-grow (suc i) e p l k t = next (suc i) e p l k ∙ mono (R i) (R (suc i)) (rounds-grow i) e p l k (sym (next i e p l k) ∙ t)
 
   -- a list that was written is fixed by its pairs
-  rewritten : (i : ℕ) → written (g .k) (g .m) (R i) ≡ rounds g f b i
+  rewritten : (i : ℕ) → written (g .size .k) (g .size .m) (R i) ≡ rounds g f b i
   unfolding R rounds
-  rewritten zero = written-same (g .k) (g .m) _ _ (held-written (g .k) (g .m) (λ _ _. b))
-  rewritten (suc i) = written-same (g .k) (g .m) _ _ (held-written (g .k) (g .m) (f (held (rounds g f b i))))
+  rewritten zero = written-same (g .size .k) (g .size .m) _ _ (held-written (g .size .k) (g .size .m) (λ _ _. b))
+  rewritten (suc i) = written-same (g .size .k) (g .size .m) _ _ (held-written (g .size .k) (g .size .m) (f (held (rounds g f b i))))
 
   back : (x y : Outs) (e p : ℕ) → gone b x e p ≡ gone b y e p → x e p ≡ y e p
   unfolding gone
@@ -107,17 +107,17 @@ module _ (g : Graph) (f : Outs → Outs) (b : Bool) (mono : (x y : Outs) → Wit
       go true q = flip (x e p) (y e p) q
       go false q = q
 
-  rounds-rest : (j : ℕ) × (j ≤ g .m * g .k) × (rounds g f b (suc j) ≡ rounds g f b j)
+  rounds-rest : (j : ℕ) × (j ≤ g .size .m * g .size .k) × (rounds g f b (suc j) ≡ rounds g f b j)
   rounds-rest =
       let r = rests g (λ i. gone b (R i)) rounds-grow in
       let j = r .0 in
-      (j, r .1, sym (rewritten (suc j)) ∙ written-same (g .k) (g .m) (R (suc j)) (R j) (λ e p l k. back (R (suc j)) (R j) e p (same-bool _ _ (r .2 e p l k) (rounds-grow j e p l k))) ∙ rewritten j)
+      (j, r .1, sym (rewritten (suc j)) ∙ written-same (g .size .k) (g .size .m) (R (suc j)) (R j) (λ e p l k. back (R (suc j)) (R j) e p (same-bool _ _ (r .2 e p l k) (rounds-grow j e p l k))) ∙ rewritten j)
 
   -- rounds at rest are a solution, and the first of all that are closed
   module _ (j : ℕ) (rest : rounds g f b (suc j) ≡ rounds g f b j) where
     rest-solves : Same g (held (rounds g f b j)) (f (held (rounds g f b j)))
     unfolding rounds
-    rest-solves e p l k = ap (λ (t : List ℕ). held t e p) (sym rest) ∙ held-written (g .k) (g .m) (f (held (rounds g f b j))) e p l k
+    rest-solves e p l k = ap (λ (t : List ℕ). held t e p) (sym rest) ∙ held-written (g .size .k) (g .size .m) (f (held (rounds g f b j))) e p l k
 
     rest-first : (z : Outs) → Within g (gone b (f z)) (gone b z) → Within g (gone b (held (rounds g f b j))) (gone b z)
     unfolding R
@@ -146,7 +146,7 @@ module _ (g : Graph) (acc : Acceptable g) where
   unfolding gone
   may-grows = may-mono g acc
 
-  pub may-rests : (j : ℕ) × (j ≤ g .m * g .k) × (mayRounds g (suc j) ≡ mayRounds g j)
+  pub may-rests : (j : ℕ) × (j ≤ g .size .m * g .size .k) × (mayRounds g (suc j) ≡ mayRounds g j)
   may-rests = rounds-rest g (λ x. outSet g x may x) false may-grows
 
   pub may-at-rest : (j : ℕ) → mayRounds g (suc j) ≡ mayRounds g j → LeastClosed g (held (mayRounds g j))
@@ -187,7 +187,7 @@ module _ (g : Graph) (m : Outs) where
   sure-shrinks x y h e p l k t =
       ap not (turned (outSet g m sure y e p) (outSet g m sure x e p) (sure-mono g m y x (λ d q u j. unturned (x d q) (y d q) (h d q u j)) e p l k) (not-true _ t))
 
-  pub sure-rests : (j : ℕ) × (j ≤ g .m * g .k) × (sureRounds g m (suc j) ≡ sureRounds g m j)
+  pub sure-rests : (j : ℕ) × (j ≤ g .size .m * g .size .k) × (sureRounds g m (suc j) ≡ sureRounds g m j)
   sure-rests = rounds-rest g (outSet g m sure) true sure-shrinks
 
   pub sure-at-rest : (j : ℕ) → sureRounds g m (suc j) ≡ sureRounds g m j → GreatestBacked g m (held (sureRounds g m j))

@@ -1,10 +1,11 @@
 -- Both systems grow with their sets; each has one solution of the kind asked for; what lies within the grants stays there.
 use Prim.Native.Nat.{ℕ, _<_}
 use mathlib.Core.Path.{_≡_, refl, sym, _∙_}
+use mathlib.Core.Logic.{⊎-elim}
 use mathlib.Core.Bool.{Bool, true, false}
 use Rattle.truth.specs.Truth.Bools.{by-split, same-bool}
-use Rattle.graph.specs.Graph.{Graph, isCheck, check, privileged, grants, from, to, isCall, Acceptable, System, may, sure, Outs, Arrival, mark, edge, arriving, inSet, pastSet, outSet, Within, Same, LeastMay, GreatestSure}
-use Rattle.graph.specs.Graph.Rules.{check-low, from-low, transfer-same}
+use Rattle.graph.specs.Graph.{Graph, isCheck, check, privileged, grants, from, to, Acceptable, System, may, sure, Outs, Arrival, mark, edge, arriving, inSet, pastSet, outSet, Within, Same, LeastMay, GreatestSure}
+use Rattle.graph.specs.Graph.Rules.{check-low, from-low, ways-of, transfer-same}
 use Rattle.graph.specs.Graph.Arrivals.{Arrives, by-mark, by-edge, arriving-mark, arriving-edge}
 use Rattle.graph.specs.Graph.Edges.{in-may, in-sure, past-may, past-sure, call-edge, transfer-plain, transfer-privileged, transfer-past}
 use Rattle.graph.specs.Graph.Rule.{out-by-rule, out-rule-mono}
@@ -17,7 +18,7 @@ module _ (g : Graph) (w w′ : Outs) (y : System) (x x′ : Outs) (e p : ℕ)
   out-mono : outSet g w y x e p ≡ true → outSet g w′ y x′ e p ≡ true
   out-mono t = out-by-rule g w′ y x′ e p ∙ out-rule-mono g e p _ _ _ _ ins past (sym (out-by-rule g w y x e p) ∙ t)
 
-module _ (g : Graph) (x y : Outs) (p : ℕ) (h : (e : ℕ) → e < g .m → x e p ≡ true → y e p ≡ true) (n : ℕ) where
+module _ (g : Graph) (x y : Outs) (p : ℕ) (h : (e : ℕ) → e < g .size .m → x e p ≡ true → y e p ≡ true) (n : ℕ) where
   arriving-mono : (a : Arrival) → Arrives g n a → arriving g x n a p ≡ true → arriving g y n a p ≡ true
   arriving-mono a (by-mark _) t = arriving-mark g y n p ∙ sym (arriving-mark g x n p) ∙ t
   arriving-mono a (by-edge e l _) t = arriving-edge g y n e p ∙ h e l (sym (arriving-edge g x n e p) ∙ t)
@@ -32,7 +33,7 @@ may-mono g acc x y h e p l k = out-mono g x y may x y e p (in-mono g x y p (at p
     n : ℕ
     n = from g e
 
-    at : (q : ℕ) → q < g .k → (e : ℕ) → e < g .m → x e q ≡ true → y e q ≡ true
+    at : (q : ℕ) → q < g .size .k → (e : ℕ) → e < g .size .m → x e q ≡ true → y e q ≡ true
     at q j e l = h e q l j
 
     past : isCheck g n ≡ true → pastSet g x may x n p ≡ true → pastSet g y may y n p ≡ true
@@ -46,7 +47,7 @@ sure-mono g m x y h e p l k = out-mono g m m sure x y e p (in-mono g x y p at n 
     n : ℕ
     n = from g e
 
-    at : (e : ℕ) → e < g .m → x e p ≡ true → y e p ≡ true
+    at : (e : ℕ) → e < g .size .m → x e p ≡ true → y e p ≡ true
     at e l = h e p l k
 
     past : isCheck g n ≡ true → pastSet g m sure x n p ≡ true → pastSet g m sure y n p ≡ true
@@ -58,7 +59,7 @@ sure-mono g m x y h e p l k = out-mono g m m sure x y e p (in-mono g x y p at n 
 
 -- every out set lies within the grants of its edge's to node
 abbrev pub Granted : Graph → Outs → Type 0
-Granted g x = (e p : ℕ) → e < g .m → x e p ≡ true → grants g (to g e) p ≡ true
+Granted g x = (e p : ℕ) → e < g .size .m → x e p ≡ true → grants g (to g e) p ≡ true
 
 module _ (g : Graph) (acc : Acceptable g) (x : Outs) (h : Granted g x) where
   arriving-granted : (n p : ℕ) (a : Arrival) → Arrives g n a → arriving g x n a p ≡ true → grants g n p ≡ true
@@ -70,7 +71,7 @@ module _ (g : Graph) (acc : Acceptable g) (x : Outs) (h : Granted g x) where
 
   pub may-granted : Granted g (outSet g x may x)
   may-granted e p l t =
-      by-split (isCall g e) (λ c. call-edge g x may x e p c .0 t .1)
+      ⊎-elim (λ c. call-edge g x may x e p c .0 t .1)
       (λ c.
       sym (transfer-same g acc e l c p)
       ∙ by-split (isCheck g (from g e))
@@ -78,7 +79,7 @@ module _ (g : Graph) (acc : Acceptable g) (x : Outs) (h : Granted g x) where
       by-split (privileged g (from g e) (check g (from g e)))
       (λ v. in-granted (from g e) p (transfer-privileged g x may x e p c k v .0 t .1))
       (λ v. let r = past-may g x x (from g e) p .0 (transfer-past g x may x e p c k v .0 t) in arriving-granted (from g e) p (r .0) (r .1) (r .3)))
-      (λ k. in-granted (from g e) p (transfer-plain g x may x e p c k .0 t)))
+      (λ k. in-granted (from g e) p (transfer-plain g x may x e p c k .0 t))) (ways-of g acc e l)
 
 -- ---- there is one least MAY solution, and one greatest SURE solution
 

@@ -14,7 +14,7 @@ use Rattle.graph.specs.declared.Judged.the-variants.{Accepted}
 abbrev pub computedSets : Graph → Slices → (i j : ℕ) → List (List ℕ)
 computedSets g s i j =
     mayRounds g i ∷ mayRounds g (suc i) ∷ sureRounds g (held (s .mayOut)) j ∷ sureRounds g (held (s .mayOut)) (suc j)
-    ∷ written (g .k) (g .n) (deniedSet g (held (s .mayOut))) ∷ written (g .k) (g .n) (grantedSet g (held (s .sureOut))) ∷ []
+    ∷ written (g .size .k) (g .size .n) (deniedSet g (held (s .mayOut))) ∷ written (g .size .k) (g .size .n) (grantedSet g (held (s .sureOut))) ∷ []
 
 abbrev pub storedSets : Slices → List (List ℕ)
 storedSets s = s .mayOut ∷ s .mayOut ∷ s .sureOut ∷ s .sureOut ∷ s .denied ∷ s .granted ∷ []

@@ -11,7 +11,8 @@ use Rattle.truth.specs.Truth.{Says, holds, fails, All, First, first}
 use Rattle.truth.specs.Truth.Tests.{says-same, true-says, false-says, le?, lt?, eq?, and?, or?, if?, not?, first?, first-all, first-one, all-first, first-found}
 use Rattle.truth.specs.Truth.Bools.{by-split}
 use Rattle.sets.specs.Sets.Members.{below-members}
-use Rattle.graph.specs.Graph.{Graph, Ranges, Shape, NodeRule, EdgeRule, EndsRule, NodeObeys, EdgeObeys, NoEntry, Acceptable}
+use Rattle.graph.specs.Graph.{Graph, PerNode, PerEdge, mapNode, mapEdge, EachNode, EachEdge, everyNode, everyEdge, Ranges, Shape, NodeRule, EdgeRule, EndsRule, NodeObeys, EdgeObeys, NoEntry, Acceptable}
+use Rattle.graph.specs.declared.Size.{Size}
 use Rattle.graph.specs.Refusals.{Numbered, _at_, numbered, refusal, refusal-numbered}
 use Rattle.graph.specs.Judge.{Refuses, shape, node, edge, entry, Judges, accepted, refused, rangeTest, shapeTest, nodeTest, edgeTest, noEntry, judge}
 use Rattle.graph.specs.declared.Refusal.{Refusal}
@@ -21,28 +22,33 @@ use Rattle.graph.specs.declared.Judged.the-variants.{Accepted, Refused}
 
 -- ---- each test says whether its rule holds
 
-pub range? : (k n m : ℕ) → Says (Ranges k n m) (rangeTest k n m)
-range? k n m =
-    says-same (and? (le? 1 k) (and? (le? k 64) (and? (le? 1 n) (and? (le? n 1024) (le? m 4096)))))
+pub range? : (s : Size) → Says (Ranges s) (rangeTest s)
+range? s =
+    says-same (and? (le? 1 (s .k)) (and? (le? (s .k) 64) (and? (le? 1 (s .n)) (and? (le? (s .n) 1024) (le? (s .m) 4096)))))
     (λ x. record { k-low = x .0; k-high = x .1 .0; n-low = x .1 .1 .0; n-high = x .1 .1 .1 .0; m-high = x .1 .1 .1 .1 })
     (λ r. (r .k-low, (r .k-high, (r .n-low, (r .n-high, r .m-high)))))
+
+-- a test of each says whether it holds of each
+pub each-node? : {A : Type 0} {P : A → Type 0} {f : A → Bool} → ((a : A) → Says (P a) (f a)) → (x : PerNode A) → Says (EachNode P x) (everyNode (mapNode f x))
+each-node? t x =
+    says-same (and? (t (x .kinds)) (and? (t (x .checks)) (and? (t (x .privileged)) (and? (t (x .entries)) (t (x .grants))))))
+    (λ y. record { kinds = y .0; checks = y .1 .0; privileged = y .1 .1 .0; entries = y .1 .1 .1 .0; grants = y .1 .1 .1 .1 })
+    (λ r. (r .kinds, (r .checks, (r .privileged, (r .entries, r .grants)))))
+
+pub each-edge? : {A : Type 0} {P : A → Type 0} {f : A → Bool} → ((a : A) → Says (P a) (f a)) → (x : PerEdge A) → Says (EachEdge P x) (everyEdge (mapEdge f x))
+each-edge? t x =
+    says-same (and? (t (x .froms)) (and? (t (x .tos)) (t (x .ways))))
+    (λ y. record { froms = y .0; tos = y .1 .0; ways = y .1 .1 })
+    (λ r. (r .froms, (r .tos, r .ways)))
 
 shape? : (g : Graph) → Says (Shape g) (shapeTest g)
 unfolding shapeTest
 shape? g =
     says-same
-    (and?
-    (range? (g .k) (g .n) (g .m))
-    (and? (and? (eq? _ _) (and? (eq? _ _) (and? (eq? _ _) (and? (eq? _ _) (eq? _ _))))) (and? (eq? _ _) (and? (eq? _ _) (eq? _ _)))))
-    (λ x. record {
-      ranges = x .0;
-      nodes = record { kinds-long = x .1 .0 .0; checks-long = x .1 .0 .1 .0; privileged-long = x .1 .0 .1 .1 .0; entries-long = x .1 .0 .1 .1 .1 .0; grants-long = x .1 .0 .1 .1 .1 .1 };
-      edges = record { froms-long = x .1 .1 .0; tos-long = x .1 .1 .1 .0; ways-long = x .1 .1 .1 .1 };
-    })
-    (λ s.
-    let a = s .nodes in
-    let b = s .edges in
-    (s .ranges, ((a .kinds-long, (a .checks-long, (a .privileged-long, (a .entries-long, a .grants-long)))), (b .froms-long, (b .tos-long, b .ways-long)))))
+    (and? (range? (g .size))
+    (and? (each-node? {f = λ l. eqb l (g .size .n)} (λ l. eq? l (g .size .n)) (mapNode length (g .nodes))) (each-edge? {f = λ l. eqb l (g .size .m)} (λ l. eq? l (g .size .m)) (mapEdge length (g .edges)))))
+    (λ x. record { ranges = x .0; nodes = x .1 .0; edges = x .1 .1 })
+    (λ s. (s .ranges, (s .nodes, s .edges)))
 
 node? : (g : Graph) (n : ℕ) → Says (NodeObeys g n) (nodeTest g n)
 unfolding nodeTest
@@ -55,9 +61,9 @@ node? g n =
       check-none = x .1 .0 .1;
       privileged-mark = x .1 .1 .0;
       entry-mark = x .1 .1 .1 .0;
-      grants-below = below-members (g .k) (getD (g .grants) n 0) .0 (x .1 .1 .1 .1);
+      grants-below = below-members (g .size .k) (getD (g .nodes .grants) n 0) .0 (x .1 .1 .1 .1);
     })
-    (λ r. (r .kind-known, ((r .check-below, r .check-none), (r .privileged-mark, (r .entry-mark, below-members (g .k) (getD (g .grants) n 0) .1 (r .grants-below))))))
+    (λ r. (r .kind-known, ((r .check-below, r .check-none), (r .privileged-mark, (r .entry-mark, below-members (g .size .k) (getD (g .nodes .grants) n 0) .1 (r .grants-below))))))
 
 ends? : (way leaves out into : ℕ) → Says (EndsRule way leaves out into) (cond (eqb way 0) (eqb leaves 0) (eqb way 1 && ((eqb leaves 0 || eqb leaves 2) && eqb out into)))
 ends? way leaves out into =
@@ -82,36 +88,36 @@ edge? g e =
     (λ x. record { from-node = x .0; to-node = x .1 .0; ends = x .1 .1 })
     (λ r. (r .from-node, (r .to-node, r .ends)))
 
-entry? : (g : Graph) (n : ℕ) → Says (NoEntry (g .entries) n) (noEntry g n)
+entry? : (g : Graph) (n : ℕ) → Says (NoEntry (g .nodes .entries) n) (noEntry g n)
 unfolding noEntry
-entry? g n = not? (eq? (getD (g .entries) n 0) 1)
+entry? g n = not? (eq? (getD (g .nodes .entries) n 0) 1)
 
 -- ---- the answer that the searches lead to
 
-pub edge-given : (g : Graph) {i e : ℕ} → Shape g → First (NodeObeys g) (g .n) i → g .n ≤ i → e < g .m → First (EdgeObeys g) (g .m) e → Judges g (Refused (why.Edge e))
+pub edge-given : (g : Graph) {i e : ℕ} → Shape g → First (NodeObeys g) (g .size .n) i → g .size .n ≤ i → e < g .size .m → First (EdgeObeys g) (g .size .m) e → Judges g (Refused (why.Edge e))
 edge-given g s fi h l fe = refused (edge s (first-all fi h) l fe)
 
-module _ (g : Graph) {i e r : ℕ} (s : Shape g) (fi : First (NodeObeys g) (g .n) i) (hi : g .n ≤ i) (fe : First (EdgeObeys g) (g .m) e) (he : g .m ≤ e) (fr : First (NoEntry (g .entries)) (g .n) r) where
-  marked : (NoEntry (g .entries) r → ⊥) → getD (g .entries) r 0 ≡ 1
-  marked d = by-split (eqb (getD (g .entries) r 0) 1) (eqb-true _ 1) (λ f. absurd (d (eqb-false _ 1 f)))
+module _ (g : Graph) {i e r : ℕ} (s : Shape g) (fi : First (NodeObeys g) (g .size .n) i) (hi : g .size .n ≤ i) (fe : First (EdgeObeys g) (g .size .m) e) (he : g .size .m ≤ e) (fr : First (NoEntry (g .nodes .entries)) (g .size .n) r) where
+  marked : (NoEntry (g .nodes .entries) r → ⊥) → getD (g .nodes .entries) r 0 ≡ 1
+  marked d = by-split (eqb (getD (g .nodes .entries) r 0) 1) (eqb-true _ 1) (λ f. absurd (d (eqb-false _ 1 f)))
 
-  pub accepted-given : r < g .n → Judges g Accepted
+  pub accepted-given : r < g .size .n → Judges g Accepted
   accepted-given l = accepted (record { shape = s; nodes = first-all fi hi; edges = first-all fe he; entered = (r, l, marked (fr .broken l)) })
 
-  pub entry-given : g .n ≤ r → Judges g (Refused why.NoEntry)
+  pub entry-given : g .size .n ≤ r → Judges g (Refused why.NoEntry)
   entry-given h = refused (entry s (first-all fi hi) (first-all fe he) (first-all fr h))
 
 pub judge-judges : (g : Graph) → Judges g (judge g)
 unfolding judge
 judge-judges g =
     go (shapeTest g) (shape? g)
-    (first (nodeTest g) (g .n)) (first? (nodeTest g) (node? g) (g .n)) (ltb (first (nodeTest g) (g .n)) (g .n)) (lt? _ _)
-    (first (edgeTest g) (g .m)) (first? (edgeTest g) (edge? g) (g .m)) (ltb (first (edgeTest g) (g .m)) (g .m)) (lt? _ _)
-    (first (noEntry g) (g .n)) (first? (noEntry g) (entry? g) (g .n)) (ltb (first (noEntry g) (g .n)) (g .n)) (lt? _ _)
+    (first (nodeTest g) (g .size .n)) (first? (nodeTest g) (node? g) (g .size .n)) (ltb (first (nodeTest g) (g .size .n)) (g .size .n)) (lt? _ _)
+    (first (edgeTest g) (g .size .m)) (first? (edgeTest g) (edge? g) (g .size .m)) (ltb (first (edgeTest g) (g .size .m)) (g .size .m)) (lt? _ _)
+    (first (noEntry g) (g .size .n)) (first? (noEntry g) (entry? g) (g .size .n)) (ltb (first (noEntry g) (g .size .n)) (g .size .n)) (lt? _ _)
   where
-    go : (s : Bool) → Says (Shape g) s → (i : ℕ) → First (NodeObeys g) (g .n) i → (a : Bool) → Says (i < g .n) a
-        → (e : ℕ) → First (EdgeObeys g) (g .m) e → (b : Bool) → Says (e < g .m) b
-        → (r : ℕ) → First (NoEntry (g .entries)) (g .n) r → (d : Bool) → Says (r < g .n) d
+    go : (s : Bool) → Says (Shape g) s → (i : ℕ) → First (NodeObeys g) (g .size .n) i → (a : Bool) → Says (i < g .size .n) a
+        → (e : ℕ) → First (EdgeObeys g) (g .size .m) e → (b : Bool) → Says (e < g .size .m) b
+        → (r : ℕ) → First (NoEntry (g .nodes .entries)) (g .size .n) r → (d : Bool) → Says (r < g .size .n) d
         → Judges g (cond s (cond a (Refused (why.Node i)) (cond b (Refused (why.Edge e)) (cond d Accepted (Refused why.NoEntry)))) (Refused why.Shape))
     go false (fails s) i fi a _ e fe b _ r fr d _ = refused (shape s)
     go true (holds s) i fi true (holds p) e fe b _ r fr d _ = refused (node s p fi)
@@ -122,29 +128,29 @@ judge-judges g =
 -- ---- what is given is the computed answer
 
 module _ (g : Graph) where
-  all-nodes : All (NodeObeys g) (g .n) → ltb (first (nodeTest g) (g .n)) (g .n) ≡ false
-  all-nodes a = le-ltb _ _ (all-first (first? (nodeTest g) (node? g) (g .n)) a)
+  all-nodes : All (NodeObeys g) (g .size .n) → ltb (first (nodeTest g) (g .size .n)) (g .size .n) ≡ false
+  all-nodes a = le-ltb _ _ (all-first (first? (nodeTest g) (node? g) (g .size .n)) a)
 
-  all-edges : All (EdgeObeys g) (g .m) → ltb (first (edgeTest g) (g .m)) (g .m) ≡ false
-  all-edges a = le-ltb _ _ (all-first (first? (edgeTest g) (edge? g) (g .m)) a)
+  all-edges : All (EdgeObeys g) (g .size .m) → ltb (first (edgeTest g) (g .size .m)) (g .size .m) ≡ false
+  all-edges a = le-ltb _ _ (all-first (first? (edgeTest g) (edge? g) (g .size .m)) a)
 
   computed : {x : Numbered} → Refuses g x → judge g ≡ Refused (refusal x)
   unfolding judge
   computed (shape s) = rw (false-says (shape? g) s)
   computed (node s l f) =
-      let e = first-one (first? (nodeTest g) (node? g) (g .n)) f in
+      let e = first-one (first? (nodeTest g) (node? g) (g .size .n)) f in
       rw (true-says (shape? g) s, e, lt-ltb _ _ l)
   computed (edge s a l f) =
-      let e = first-one (first? (edgeTest g) (edge? g) (g .m)) f in
+      let e = first-one (first? (edgeTest g) (edge? g) (g .size .m)) f in
       rw (true-says (shape? g) s, all-nodes a, e, lt-ltb _ _ l)
   computed (entry s a b n) =
-      rw (true-says (shape? g) s, all-nodes a, all-edges b, le-ltb _ _ (all-first (first? (noEntry g) (entry? g) (g .n)) n))
+      rw (true-says (shape? g) s, all-nodes a, all-edges b, le-ltb _ _ (all-first (first? (noEntry g) (entry? g) (g .size .n)) n))
 
   pub judges-judge : {r : Judged} → Judges g r → r ≡ judge g
   unfolding judge
   judges-judge (accepted a) =
       let e = a .entered in
-      let l = lt-ltb _ _ (first-found (first? (noEntry g) (entry? g) (g .n)) (e .1) (λ f. f (e .2))) in
+      let l = lt-ltb _ _ (first-found (first? (noEntry g) (entry? g) (g .size .n)) (e .1) (λ f. f (e .2))) in
       sym (rw (true-says (shape? g) (a .shape), all-nodes (a .nodes), all-edges (a .edges), l))
   judges-judge (refused {r} f) = sym (computed f ∙ ap Refused (refusal-numbered r))
 

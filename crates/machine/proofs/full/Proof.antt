@@ -43,7 +43,7 @@ look-full-requires c κs =
     let a = accepted-is (rw (c .before .before .before .enum-told .given .1) at (c .before .before .before .before .before .check .ensures)) in
     let f = says-true (c .before .stack-fits .ensures) (not-false _ (c .if2 .left)) in
     let n = a .shape .nodes in
-    ((f .held, omega (arith, f .held, f .slice), omega (arith, n .privileged-long, n .grants-long)), rw (n .grants-long) (f .nodes))
+    ((f .held, omega (arith, f .held, f .slice), omega (arith, n .privileged, n .grants)), rw (n .grants) (f .nodes))
 
 returns-4 : tie.Need-returns-4
 returns-4 c =

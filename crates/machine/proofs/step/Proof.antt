@@ -40,7 +40,7 @@ find-place-requires c κs =
     let f = says-true (c .before .before .stack-fits .ensures) (not-false _ (c .before .if2 .left)) in
     let e = a .shape .edges in
     let n = a .shape .nodes in
-    ((omega (arith, e .tos-long, e .froms-long), omega (arith, e .ways-long, e .froms-long), omega (arith, n .entries-long), f .held), rw (n .kinds-long) (f .nodes))
+    ((omega (arith, e .tos, e .froms), omega (arith, e .ways, e .froms), omega (arith, n .entries), f .held), rw (n .kinds) (f .nodes))
 
 enum-told-2 : tie.Need-enum-told-2
 enum-told-2 c = search needs
@@ -54,7 +54,7 @@ move-to-requires c κs =
     let f = says-true (c .before .before .before .before .before .before .before .stack-fits .ensures) (not-false _ (c .before .before .before .before .before .before .if2 .left)) in
     let n = a .shape .nodes in
     let p = place-low (rw (c .before .before .place .given .1) at (c .before .before .before .before .find-place .ensures)) in
-    ((f .held, omega (arith, f .held, f .slice), omega (arith, n .privileged-long, n .grants-long), omega (arith, n .kinds-long, n .grants-long), omega (arith, n .checks-long, n .grants-long), omega (arith, a .shape .ranges .n-high), omega (arith, p, f .held, f .slice)), rw (n .grants-long) (f .nodes))
+    ((f .held, omega (arith, f .held, f .slice), omega (arith, n .privileged, n .grants), omega (arith, n .kinds, n .grants), omega (arith, n .checks, n .grants), omega (arith, a .shape .ranges .n-high), omega (arith, p, f .held, f .slice)), rw (n .grants) (f .nodes))
 
 same-length-2 : tie.Need-same-length-2
 same-length-2 c = search needs

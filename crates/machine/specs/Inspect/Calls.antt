@@ -39,7 +39,7 @@ module _ (g : Graph) {before x : Slices} (stored : Solves g before Accepted x) w
       go : Solves g before Accepted x → Acceptable g × Content g x
       go (solved l a c) = (a, c)
 
-  long : SetsLong (g .n) (length (x .denied)) (length (x .granted))
+  long : SetsLong (g .size .n) (length (x .denied)) (length (x .granted))
   long = record { denied-long = content .1 .denied-stored .long; granted-long = content .1 .granted-stored .long }
 
   -- `stack` holds a reachable stack under its height.

@@ -33,34 +33,34 @@ agrees-by {a} {b} {c} {d} p q e l = rw (p, q) (record { answer = e; frames = l }
 -- ---- quick inspection agrees with full inspection on every stack whose frames came so
 
 module _ (g : Graph) (acc : Acceptable g) (m s : Outs) (sound : Sound g m s) (den gra : List ℕ)
-    (denies : (n p : ℕ) → n < g .n → p < g .k → has (getD den n 0) p ≡ deniedSet g m n p)
-    (grants-set : (n p : ℕ) → n < g .n → p < g .k → has (getD gra n 0) p ≡ grantedSet g s n p) where
+    (denies : (n p : ℕ) → n < g .size .n → p < g .size .k → has (getD den n 0) p ≡ deniedSet g m n p)
+    (grants-set : (n p : ℕ) → n < g .size .n → p < g .size .k → has (getD gra n 0) p ≡ grantedSet g s n p) where
   -- what arrives at a node by MAY's out sets it grants
-  in-granted : (n p : ℕ) → p < g .k → inSet g may m n p ≡ true → grants g n p ≡ true
+  in-granted : (n p : ℕ) → p < g .size .k → inSet g may m n p ≡ true → grants g n p ≡ true
   in-granted n p k t = let r = in-may g m n p .0 t in by (r .0) (r .1) (r .2)
     where
       by : (a : Arrival) → Arrives g n a → arriving g m n a p ≡ true → grants g n p ≡ true
       by a (by-mark _) u = sym (arriving-mark g m n p) ∙ u
       by a (by-edge e l q) u = rw q at (sound .may-granted e p l k (sym (arriving-edge g m n e p) ∙ u))
 
-  not-denied : (n p : ℕ) → n < g .n → p < g .k → has (getD den n 0) p ≡ false → callSet g may m n p ≡ true
+  not-denied : (n p : ℕ) → n < g .size .n → p < g .size .k → has (getD den n 0) p ≡ false → callSet g may m n p ≡ true
   not-denied n p l k f = not-false _ (sym (denied-code g m n p) ∙ sym (denies n p l k) ∙ f)
 
-  is-denied : (n p : ℕ) → n < g .n → p < g .k → has (getD den n 0) p ≡ true → callSet g may m n p ≡ false
+  is-denied : (n p : ℕ) → n < g .size .n → p < g .size .k → has (getD den n 0) p ≡ true → callSet g may m n p ≡ false
   is-denied n p l k t = not-true _ (sym (denied-code g m n p) ∙ sym (denies n p l k) ∙ t)
 
-  is-granted : (n p : ℕ) → n < g .n → p < g .k → has (getD gra n 0) p ≡ callSet g sure s n p
+  is-granted : (n p : ℕ) → n < g .size .n → p < g .size .k → has (getD gra n 0) p ≡ callSet g sure s n p
   is-granted n p l k = grants-set n p l k ∙ granted-code g s n p
 
   -- a frame that neither set decides is one that full inspection goes past
-  undecided : (n p : ℕ) → n < g .n → p < g .k → has (getD den n 0) p ≡ false → has (getD gra n 0) p ≡ false → (grants g n p ≡ true) × (privileged g n p ≡ false)
+  undecided : (n p : ℕ) → n < g .size .n → p < g .size .k → has (getD den n 0) p ≡ false → has (getD gra n 0) p ≡ false → (grants g n p ≡ true) × (privileged g n p ≡ false)
   undecided n p l k d a =
       let c = not-denied n p l k d in
       by-split (privileged g n p)
       (λ v. clash (is-granted n p l k ∙ call-privileged g sure s n p v .1 (call-privileged g may m n p v .0 c)) a)
       (λ v. (in-granted n p k (call-at-most g may m n p v c), v))
 
-  pub agrees : {x : List ℕ} → Framed g m s x → (p : ℕ) → p < g .k → Agrees (quick den gra p x) (full g p x)
+  pub agrees : {x : List ℕ} → Framed g m s x → (p : ℕ) → p < g .size .k → Agrees (quick den gra p x) (full g p x)
   agrees bare p k = agrees-by (quick-bottom den gra p) (full-bottom g p) refl (omega arith)
   agrees (frame {n} {r} l a w f) p k = go (agrees f p k)
     where
@@ -79,10 +79,10 @@ module _ (g : Graph) (acc : Acceptable g) (m s : Outs) (sound : Sound g m s) (de
           fails d = by-split (full g p (n ∷ r) .passes) (λ t. clash (passes-call g m s n r a p k t) (is-denied n p l k d)) (λ f. f)
 
   -- what the two sets of the top frame say of an inspection
-  pub granted-passes : {n : ℕ} {r : List ℕ} → Framed g m s (n ∷ r) → (p : ℕ) → p < g .k → has (getD gra n 0) p ≡ true → full g p (n ∷ r) .passes ≡ true
+  pub granted-passes : {n : ℕ} {r : List ℕ} → Framed g m s (n ∷ r) → (p : ℕ) → p < g .size .k → has (getD gra n 0) p ≡ true → full g p (n ∷ r) .passes ≡ true
   granted-passes (frame {n} {r} l a w f) p k t = call-passes g m s n r a p k (sym (is-granted n p l k) ∙ t)
 
-  pub denied-fails : {n : ℕ} {r : List ℕ} → Framed g m s (n ∷ r) → (p : ℕ) → p < g .k → has (getD den n 0) p ≡ true → full g p (n ∷ r) .passes ≡ false
+  pub denied-fails : {n : ℕ} {r : List ℕ} → Framed g m s (n ∷ r) → (p : ℕ) → p < g .size .k → has (getD den n 0) p ≡ true → full g p (n ∷ r) .passes ≡ false
   denied-fails (frame {n} {r} l a w f) p k t = by-split (full g p (n ∷ r) .passes) (λ u. clash (passes-call g m s n r a p k u) (is-denied n p l k t)) (λ u. u)
 
 -- ---- the verdict's numbers, turned round
@@ -119,7 +119,7 @@ module _ (g : Graph) (acc : Acceptable g) (x : Slices) (c : Content g x) where
   sound : Sound g (held (x .mayOut)) (held (x .sureOut))
   sound = solved-sound g acc (held (x .mayOut)) (held (x .sureOut)) (c .least) (c .greatest)
 
-  pub demand3 : {st : List ℕ} → Reachable g st → (p : ℕ) → p < g .k → Agrees (quick (x .denied) (x .granted) p st) (full g p st)
+  pub demand3 : {st : List ℕ} → Reachable g st → (p : ℕ) → p < g .size .k → Agrees (quick (x .denied) (x .granted) p st) (full g p st)
   demand3 h = agrees g acc (held (x .mayOut)) (held (x .sureOut)) sound (x .denied) (x .granted) (c .denies) (c .grants) (framed g acc (held (x .mayOut)) (held (x .sureOut)) sound h)
 
   -- the verdict at the check n
@@ -135,10 +135,10 @@ module _ (g : Graph) (acc : Acceptable g) (x : Slices) (c : Content g x) where
     stands : Framed g (held (x .mayOut)) (held (x .sureOut)) (n ∷ r)
     stands = framed g acc (held (x .mayOut)) (held (x .sureOut)) sound h
 
-    low : check g n < g .k
+    low : check g n < g .size .k
     low = go stands
       where
-        go : Framed g (held (x .mayOut)) (held (x .sureOut)) (n ∷ r) → check g n < g .k
+        go : Framed g (held (x .mayOut)) (held (x .sureOut)) (n ∷ r) → check g n < g .size .k
         go (frame l a w f) = check-low g acc n l at
 
     passes : has (getD (x .granted) n 0) (check g n) ≡ true → full g (check g n) (n ∷ r) .passes ≡ true

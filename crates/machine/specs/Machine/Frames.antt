@@ -59,8 +59,8 @@ came-same g n t r p e = ap (λ (b : Bool). full g p r .passes && b) e
 pub record Arrived (g : Graph) (m s : Outs) (n : ℕ) (r : List ℕ) : Type 0 where
   pub by : Arrival
   pub arrives : Arrives g n by
-  pub most : (p : ℕ) → p < g .k → came g n r p ≡ true → arriving g m n by p ≡ true
-  pub least : (p : ℕ) → p < g .k → arriving g s n by p ≡ true → came g n r p ≡ true
+  pub most : (p : ℕ) → p < g .size .k → came g n r p ≡ true → arriving g m n by p ≡ true
+  pub least : (p : ℕ) → p < g .size .k → arriving g s n by p ≡ true → came g n r p ≡ true
 
 -- the frame under another is no check
 abbrev pub Waiting : Graph → List ℕ → Type 0
@@ -69,9 +69,9 @@ Waiting g (n ∷ r) = isCheck g n ≡ false
 
 pub data Framed (g : Graph) (m s : Outs) : List ℕ → Type 0 where
   bare : Framed g m s []
-  frame : {n : ℕ} {r : List ℕ} → n < g .n → Arrived g m s n r → Waiting g r → Framed g m s r → Framed g m s (n ∷ r)
+  frame : {n : ℕ} {r : List ℕ} → n < g .size .n → Arrived g m s n r → Waiting g r → Framed g m s r → Framed g m s (n ∷ r)
 
-module _ (g : Graph) (m s : Outs) (n : ℕ) (r : List ℕ) (a : Arrived g m s n r) (p : ℕ) (k : p < g .k) where
+module _ (g : Graph) (m s : Outs) (n : ℕ) (r : List ℕ) (a : Arrived g m s n r) (p : ℕ) (k : p < g .size .k) where
   came-in : came g n r p ≡ true → inSet g may m n p ≡ true
   came-in t = in-may g m n p .1 (a .by, a .arrives, a .most p k t)
 
@@ -93,8 +93,8 @@ module _ (g : Graph) (m s : Outs) (n : ℕ) (r : List ℕ) (a : Arrived g m s n 
 
 module _ (g : Graph) (acc : Acceptable g) (m s : Outs) (sound : Sound g m s) where
   -- a frame came by an edge, if what it came with lies between the edge's out sets
-  by-edge-arrived : (t : ℕ) (r : List ℕ) (e : ℕ) → e < g .m → to g e ≡ t → ((p : ℕ) → p < g .k → came g t r p ≡ true → outSet g m may m e p ≡ true)
-      → ((p : ℕ) → p < g .k → outSet g m sure s e p ≡ true → came g t r p ≡ true) → Arrived g m s t r
+  by-edge-arrived : (t : ℕ) (r : List ℕ) (e : ℕ) → e < g .size .m → to g e ≡ t → ((p : ℕ) → p < g .size .k → came g t r p ≡ true → outSet g m may m e p ≡ true)
+      → ((p : ℕ) → p < g .size .k → outSet g m sure s e p ≡ true → came g t r p ≡ true) → Arrived g m s t r
   by-edge-arrived t r e l d f h = record {
     by = edge e;
     arrives = by-edge e l d;
@@ -111,7 +111,7 @@ module _ (g : Graph) (acc : Acceptable g) (m s : Outs) (sound : Sound g m s) whe
   }
 
   module _ (n t : ℕ) (r : List ℕ) (a : Arrived g m s n r) where
-    called : (d : Leads g true n t) → Arrived g m s t (n ∷ r)
+    called : (d : Leads g 0 n t) → Arrived g m s t (n ∷ r)
     called d =
         by-edge-arrived t (n ∷ r) (d .number) (d .low) (d .ends)
         (λ p k u. call-edge g m may m (d .number) p (d .kindred) .1 (rw (d .starts) (passes-call g m s n r a p k (came-below g t (n ∷ r) p u)), rw (d .ends) (came-grants g t (n ∷ r) p u)))
@@ -119,7 +119,7 @@ module _ (g : Graph) (acc : Acceptable g) (m s : Outs) (sound : Sound g m s) whe
         let c = call-edge g m sure s (d .number) p (d .kindred) .0 u in
         came-both g t (n ∷ r) p (call-passes g m s n r a p k (rw (d .starts) at (c .0))) (rw (d .ends) at (c .1)))
 
-    module _ (d : Leads g false n t) where
+    module _ (d : Leads g 1 n t) where
       same : (p : ℕ) → came g n r p ≡ came g t r p
       same p = came-same g n t r p (rw (d .ends) at (rw (d .starts) at (transfer-same g acc (d .number) (d .low) (d .kindred) p)))
 
@@ -131,13 +131,13 @@ module _ (g : Graph) (acc : Acceptable g) (m s : Outs) (sound : Sound g m s) whe
           (λ p k u. sym (same p) ∙ in-came g m s n r a p k (rw (d .starts) at (transfer-plain g m sure s (d .number) p (d .kindred) (rw (d .starts) c) .0 u)))
 
       -- a check that passes moves on
-      checked : n < g .n → isCheck g n ≡ true → full g (check g n) (n ∷ r) .passes ≡ true → Arrived g m s t r
+      checked : n < g .size .n → isCheck g n ≡ true → full g (check g n) (n ∷ r) .passes ≡ true → Arrived g m s t r
       checked l c f = by-split (privileged g n q) by-privilege by-passing
         where
           q : ℕ
           q = check g n
 
-          q-low : q < g .k
+          q-low : q < g .size .k
           q-low = check-low g acc n l c
 
           h : grants g n q ≡ true
@@ -158,24 +158,24 @@ module _ (g : Graph) (acc : Acceptable g) (m s : Outs) (sound : Sound g m s) whe
               own : came g n r q ≡ true
               own = passes-came g n r q v f
 
-              after : (p : ℕ) → p < g .k → PastSure g m s n p → came g n r p ≡ true
+              after : (p : ℕ) → p < g .size .k → PastSure g m s n p → came g n r p ≡ true
               after p k x = by-dec (ℕ-discrete p q)
                 where
                   by-dec : Dec (p ≡ q) → came g n r p ≡ true
                   by-dec (yes e) = rw e own
                   by-dec (no e) = a .least p k (x .held-by-all e (a .by) (a .arrives) (a .most q q-low own))
 
-  lands : (b : Bool) (n t : ℕ) → Leads g b n t → t < g .n
+  lands : (b n t : ℕ) → Leads g b n t → t < g .size .n
   lands b n t d = rw (d .ends) at (to-low g acc (d .number) (d .low))
 
   no-check : (n : ℕ) → kind g n ≡ 0 → isCheck g n ≡ false
-  no-check n z = isCheck-code g n 0 ∙ ne-eqb (getD (g .kinds) n 0) 2 (λ e. omega (arith, sym (kind-code g n 0) ∙ z))
+  no-check n z = isCheck-code g n 0 ∙ ne-eqb (getD (g .nodes .kinds) n 0) 2 (λ e. omega (arith, sym (kind-code g n 0) ∙ z))
 
   stepped : {x y : List ℕ} → Step g x y → Framed g m s x → Framed g m s y
   stepped (enter {n} l e) bare = frame l (entered n e) tt bare
-  stepped (call {n} {t} {r} z d) (frame l a w f) = frame (lands true n t d) (called n t r a d) (no-check n z) (frame l a w f)
-  stepped (pass {n} {t} {r} c h d) (frame l a w f) = frame (lands false n t d) (checked n t r a d l c h) w f
-  stepped (back {u} {n} {t} {r} z d) (frame l a w (frame k b v f)) = frame (lands false n t d) (moved n t r b d w) v f
+  stepped (call {n} {t} {r} z d) (frame l a w f) = frame (lands 0 n t d) (called n t r a d) (no-check n z) (frame l a w f)
+  stepped (pass {n} {t} {r} c h d) (frame l a w f) = frame (lands 1 n t d) (checked n t r a d l c h) w f
+  stepped (back {u} {n} {t} {r} z d) (frame l a w (frame k b v f)) = frame (lands 1 n t d) (moved n t r b d w) v f
 
   pub framed : {x : List ℕ} → Reachable g x → Framed g m s x
   framed empty = bare

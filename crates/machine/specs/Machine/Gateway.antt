@@ -1,18 +1,18 @@
 -- The worked gateway of document 01: its eight result rows and its four stacks as one table, for every content of its slices.
-use Prim.Native.Nat.{ℕ}
-use mathlib.Core.Path.{_≡_, sym, _∙_, ap}
+use Prim.Native.Nat.{ℕ, _<_}
+use mathlib.Core.Path.{_≡_, refl, sym, _∙_, ap}
 use mathlib.Core.List.{List, [], _∷_}
 use mathlib.Core.Bool.{true, false, cond}
-use lib.Dec.{eqb}
+use lib.Dec.{eqb, lit<}
 use lib.ListN.{getD}
 use native.Mathlib.Omega.{arith}
 use Rattle.truth.specs.Truth.Bools.{clash}
 use Rattle.sets.specs.Sets.{has}
 use Rattle.sets.specs.Sets.Code.{has-code}
 use Rattle.graph.specs.Graph.{Graph, isCheck, check, verdictOf, Slices, Content}
-use Rattle.graph.specs.Graph.Code.{isCheck-code, check-code, grants-code, privileged-code, verdict-code}
+use Rattle.graph.specs.Graph.Code.{kind-code, entry-code, from-code, to-code, way-code, isCheck-code, check-code, grants-code, privileged-code, verdict-code}
 use Rattle.graph.specs.Graph.Gateway.{gateway, gatewaySlices, gateway-accepted, gateway-content, gateway-one}
-use Rattle.machine.specs.Machine.{Inspected, full, quick, Reachable}
+use Rattle.machine.specs.Machine.{Inspected, full, quick, Step, Reachable}
 use Rattle.machine.specs.Machine.Demand3.{demand3}
 
 -- A node, its two sets as numbers (permission 0 is 1, permission 1 is 2), and the verdict where it is a check.
@@ -58,12 +58,15 @@ pub record Table (x : Slices) : Type 0 where
   pub stack-1-2 : look x (2 ∷ 1 ∷ []) ≡ record { stack = 2 ∷ 1 ∷ []; by-full = fails-after 2; by-quick = fails-after 2 }
   pub stack-1-4-5 : look x (5 ∷ 4 ∷ 1 ∷ []) ≡ record { stack = 5 ∷ 4 ∷ 1 ∷ []; by-full = passes-after 2; by-quick = passes-after 1 }
   pub stack-1-5 : look x (5 ∷ 1 ∷ []) ≡ record { stack = 5 ∷ 1 ∷ []; by-full = fails-after 2; by-quick = passes-after 1 }
+  pub run-to-0-2 : Reachable gateway (2 ∷ 0 ∷ [])
+  pub run-to-1-2 : Reachable gateway (2 ∷ 1 ∷ [])
+  pub run-to-1-4-5 : Reachable gateway (5 ∷ 4 ∷ 1 ∷ [])
   pub no-run-to-1-5 : Reachable gateway (5 ∷ 1 ∷ []) → ⊥
 
-is-check : (n : ℕ) → isCheck gateway n ≡ eqb (getD (gateway .kinds) n 0) 2
+is-check : (n : ℕ) → isCheck gateway n ≡ eqb (getD (gateway .nodes .kinds) n 0) 2
 is-check n = isCheck-code gateway n 0
 
-checks : (n : ℕ) → check gateway n ≡ getD (gateway .checks) n 0
+checks : (n : ℕ) → check gateway n ≡ getD (gateway .nodes .checks) n 0
 checks n = check-code gateway n 0
 
 needed : verdictOf false false ≡ 0
@@ -76,6 +79,15 @@ always-passes = verdict-code .1
 differ : look gatewaySlices (5 ∷ 1 ∷ []) ≡ record { stack = 5 ∷ 1 ∷ []; by-full = fails-after 2; by-quick = passes-after 1 }
 unfolding look full quick
 differ = simp (grants-code, privileged-code, has-code)
+
+-- the stacks that a run reaches: an entry, and calls along an edge
+entered : (n : ℕ) → n < 8 → eqb (getD (gateway .nodes .entries) n 0) 1 ≡ true → Reachable gateway (n ∷ [])
+entered n l e = Reachable.then Reachable.empty (Step.enter l (entry-code gateway n 0 ∙ e))
+
+called : {n : ℕ} {r : List ℕ} (e : ℕ) → e < 8 → getD (gateway .edges .froms) e 0 ≡ n → getD (gateway .nodes .kinds) n 0 ≡ 0 → getD (gateway .edges .ways) e 0 ≡ 0 → Reachable gateway (n ∷ r)
+    → Reachable gateway (getD (gateway .edges .tos) e 0 ∷ n ∷ r)
+called {n} e l f k w h =
+    Reachable.then h (Step.call (kind-code gateway n 0 ∙ k) (record { number = e; low = l; kindred = way-code gateway e ∙ w; starts = from-code gateway e ∙ f; ends = to-code gateway e }))
 
 rows : Table gatewaySlices
 unfolding row look full quick
@@ -92,6 +104,9 @@ rows = record {
   stack-1-2 = simp (grants-code, privileged-code, has-code);
   stack-1-4-5 = simp (grants-code, privileged-code, has-code);
   stack-1-5 = differ;
+  run-to-0-2 = called 0 (lit< tt) refl refl refl (entered 0 (lit< tt) refl);
+  run-to-1-2 = called 1 (lit< tt) refl refl refl (entered 1 (lit< tt) refl);
+  run-to-1-4-5 = called 4 (lit< tt) refl refl refl (called 3 (lit< tt) refl refl refl (entered 1 (lit< tt) refl));
   no-run-to-1-5 = λ h.
       let a = demand3 gateway gateway-accepted gatewaySlices gateway-content h 0 (omega arith) .answer in
       clash (sym a ∙ ap (λ l. l .by-quick .passes) differ) (ap (λ l. l .by-full .passes) differ);

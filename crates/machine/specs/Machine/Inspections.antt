@@ -19,7 +19,7 @@ fullBy privileged grants p (n ∷ r) =
     let down = below (fullBy privileged grants p r) in
     cond (has (getD grants n 0) p) (cond (eqb (getD privileged n 0) 1) (decided true) down) (decided false)
 
-pub full-by : (g : Graph) (p : ℕ) (x : List ℕ) → full g p x ≡ fullBy (g .privileged) (g .grants) p x
+pub full-by : (g : Graph) (p : ℕ) (x : List ℕ) → full g p x ≡ fullBy (g .nodes .privileged) (g .nodes .grants) p x
 unfolding full fullBy
 full-by g p [] = refl
 full-by g p (n ∷ r) = rw (grants-code g n p, privileged-code g n p, full-by g p r)

@@ -54,7 +54,7 @@ module _ (g : Graph) {st : List ℕ} {height next : ℕ} where
   step-refusal-one (no-room k1 u1 d1 m1) (check-denied k2 u2 e2) = absurd (d1 e2)
   step-refusal-one (no-room k1 u1 d1 m1) (no-room k2 u2 d2 m2) = refl
 
-  step-refusal-not : {x : Numbered} {p : ℕ} → StepRefuses g st height next x → Asks g (next < g .n) st height → Rule g st height next p → (Denied g st height → ⊥) → p < length st → ⊥
+  step-refusal-not : {x : Numbered} {p : ℕ} → StepRefuses g st height next x → Asks g (next < g .size .n) st height → Rule g st height next p → (Denied g st height → ⊥) → p < length st → ⊥
   step-refusal-not (asks f) k u d l = refusal-not g f k
   step-refusal-not (no-rule _ e) k u d l = e _ u
   step-refusal-not (check-denied _ _ e) k u d l = d e

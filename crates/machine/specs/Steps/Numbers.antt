@@ -15,25 +15,25 @@ use Rattle.machine.specs.declared.Place.the-variants.{At, Nowhere}
 use Rattle.machine.specs.Steps.{top, lower}
 
 -- An edge from a to b that is a call edge where call is true, else a transfer edge.
-pub record Joins (from to way : ℕ) (call : Bool) (a b : ℕ) : Type 0 where
+pub record Joins (from to way sort a b : ℕ) : Type 0 where
   pub starts : from ≡ a
   pub ends : to ≡ b
-  pub kindred : eqb way 0 ≡ call
+  pub kindred : way ≡ sort
 
-abbrev pub JoinsAt : (froms tos ways : List ℕ) (call : Bool) (a b : ℕ) → ℕ → Type 0
+abbrev pub JoinsAt : (froms tos ways : List ℕ) (sort a b : ℕ) → ℕ → Type 0
 JoinsAt froms tos ways k a b i = Joins (getD froms i 0) (getD tos i 0) (getD ways i 0) k a b
 
-pub record Linked (froms tos ways : List ℕ) (call : Bool) (a b : ℕ) : Type 0 where
+pub record Linked (froms tos ways : List ℕ) (sort a b : ℕ) : Type 0 where
   pub number : ℕ
   pub low : number < length froms
-  pub joins : JoinsAt froms tos ways call a b number
+  pub joins : JoinsAt froms tos ways sort a b number
 
 -- The rules by numbers.
 pub data RuleBy (kinds entries froms tos ways stack : List ℕ) (height next : ℕ) : ℕ → Type 0 where
   enter : height ≡ 0 → getD entries next 0 ≡ 1 → RuleBy kinds entries froms tos ways stack height next 0
-  call : 0 < height → getD kinds (top stack height) 0 ≡ 0 → Linked froms tos ways true (top stack height) next → RuleBy kinds entries froms tos ways stack height next height
-  pass : 0 < height → getD kinds (top stack height) 0 ≡ 2 → Linked froms tos ways false (top stack height) next → RuleBy kinds entries froms tos ways stack height next (height - 1)
-  back : 1 < height → getD kinds (top stack height) 0 ≡ 1 → Linked froms tos ways false (lower stack height) next → RuleBy kinds entries froms tos ways stack height next (height - 2)
+  call : 0 < height → getD kinds (top stack height) 0 ≡ 0 → Linked froms tos ways 0 (top stack height) next → RuleBy kinds entries froms tos ways stack height next height
+  pass : 0 < height → getD kinds (top stack height) 0 ≡ 2 → Linked froms tos ways 1 (top stack height) next → RuleBy kinds entries froms tos ways stack height next (height - 1)
+  back : 1 < height → getD kinds (top stack height) 0 ≡ 1 → Linked froms tos ways 1 (lower stack height) next → RuleBy kinds entries froms tos ways stack height next (height - 2)
 
 pub data Placed (kinds entries froms tos ways stack : List ℕ) (height next : ℕ) : Place → Type 0 where
   somewhere : {place : ℕ} → RuleBy kinds entries froms tos ways stack height next place → Placed kinds entries froms tos ways stack height next (At place)

@@ -15,21 +15,15 @@ use Rattle.machine.specs.declared.Inspection.the-variants as answer
 use Rattle.machine.specs.Machine.{Inspected}
 use Rattle.machine.specs.Inspect.{Says-so, passes, fails}
 use Rattle.truth.specs.Truth.Bools.{clash}
-use Rattle.truth.specs.Truth.Tests.{says-by, eq?}
+use Rattle.truth.specs.Truth.Tests.{says-same, says-by, eq?}
 use Rattle.machine.specs.declared.Place.the-variants.{Nowhere}
 use Rattle.machine.specs.Steps.{top, lower}
 use Rattle.machine.specs.Steps.Numbers.{Joins, JoinsAt, Linked, RuleBy, Placed, nowhere}
 
 -- ---- whether an edge joins
 
-module _ {f t w a b : ℕ} where
-  pub joins-call : (k : Bool) → f ≡ a → t ≡ b → eqb w 0 ≡ true → Says (Joins f t w k a b) k
-  joins-call true p q e = holds (record { starts = p; ends = q; kindred = e })
-  joins-call false p q e = truth.fails (λ j. clash e (j .kindred))
-
-  pub joins-transfer : (k : Bool) → f ≡ a → t ≡ b → eqb w 0 ≡ false → Says (Joins f t w k a b) (not k)
-  joins-transfer true p q e = truth.fails (λ j. clash (j .kindred) e)
-  joins-transfer false p q e = holds (record { starts = p; ends = q; kindred = e })
+pub joins-says : {f t w k a b : ℕ} {v : Bool} → f ≡ a → t ≡ b → Says (w ≡ k) v → Says (Joins f t w k a b) v
+joins-says p q e = says-same e (λ z. record { starts = p; ends = q; kindred = z }) (λ j. j .kindred)
 
 -- ---- a search for such an edge
 
@@ -40,20 +34,14 @@ number-stable a b h = go (eq? a b)
     go (holds e) = e
     go (truth.fails d) = absurd (h d)
 
-bool-stable : (a b : Bool) → ((a ≡ b → ⊥) → ⊥) → a ≡ b
-bool-stable true true h = refl
-bool-stable false false h = refl
-bool-stable true false h = absurd (h (λ e. clash refl e))
-bool-stable false true h = absurd (h (λ e. clash e refl))
-
-joins-stable : {f t w a b : ℕ} {k : Bool} → ((Joins f t w k a b → ⊥) → ⊥) → Joins f t w k a b
+joins-stable : {f t w k a b : ℕ} → ((Joins f t w k a b → ⊥) → ⊥) → Joins f t w k a b
 joins-stable h = record {
   starts = number-stable _ _ (λ d. h (λ j. d (j .starts)));
   ends = number-stable _ _ (λ d. h (λ j. d (j .ends)));
-  kindred = bool-stable _ _ (λ d. h (λ j. d (j .kindred)));
+  kindred = number-stable _ _ (λ d. h (λ j. d (j .kindred)));
 }
 
-pub search-says : {f t w : List ℕ} {k : Bool} {a b r : ℕ} → First (λ i. JoinsAt f t w k a b i → ⊥) (length f) r → Says (Linked f t w k a b) (ltb r (length f))
+pub search-says : {f t w : List ℕ} {k a b r : ℕ} → First (λ i. JoinsAt f t w k a b i → ⊥) (length f) r → Says (Linked f t w k a b) (ltb r (length f))
 search-says {f} {t} {w} {k} {a} {b} {r} s =
     says-by (ltb r (length f)) (λ e. let l = ltb-true r (length f) e in record { number = r; low = l; joins = joins-stable (s .broken l) })
     (λ e j. let l = ltb-false r (length f) e in s .before (j .number) (omega (arith, j .low)) (j .joins))
@@ -62,9 +50,9 @@ search-says {f} {t} {w} {k} {a} {b} {r} s =
 
 pub no-place : {kinds entries froms tos ways stack : List ℕ} {height next : ℕ}
     → (height ≡ 0 → getD entries next 0 ≡ 1 → ⊥)
-    → (0 < height → getD kinds (top stack height) 0 ≡ 0 → Linked froms tos ways true (top stack height) next → ⊥)
-    → (0 < height → getD kinds (top stack height) 0 ≡ 2 → Linked froms tos ways false (top stack height) next → ⊥)
-    → (1 < height → getD kinds (top stack height) 0 ≡ 1 → Linked froms tos ways false (lower stack height) next → ⊥)
+    → (0 < height → getD kinds (top stack height) 0 ≡ 0 → Linked froms tos ways 0 (top stack height) next → ⊥)
+    → (0 < height → getD kinds (top stack height) 0 ≡ 2 → Linked froms tos ways 1 (top stack height) next → ⊥)
+    → (1 < height → getD kinds (top stack height) 0 ≡ 1 → Linked froms tos ways 1 (lower stack height) next → ⊥)
     → Placed kinds entries froms tos ways stack height next Nowhere
 no-place {kinds} {entries} {froms} {tos} {ways} {stack} {height} {next} e c p b = nowhere go
   where

@@ -10,7 +10,7 @@ use Rattle.truth.specs.Truth.Bools.{by-split, clash}
 use Rattle.graph.specs.Graph.{Graph, kind, check, isCheck}
 use Rattle.graph.specs.Graph.Code.{kind-code, isCheck-code}
 use Rattle.machine.specs.declared.Stepped.the-variants as answer
-use Rattle.machine.specs.Machine.{stackOf, full, Step}
+use Rattle.machine.specs.Machine.{stackOf, full, Step, Reachable}
 use Rattle.machine.specs.Machine.Slices.{bare, written, topped, topped-twice, height-of, has-top, its-top, its-rest}
 use Rattle.machine.specs.Inspect.{Asks}
 use Rattle.machine.specs.Steps.{top, Rule, Denied, Steps}
@@ -22,7 +22,7 @@ module _ (g : Graph) (st : List ℕ) (height next : ℕ) where
   passing : (Denied g st height → ⊥) → 0 < height → isCheck g (top st height) ≡ true → full g (check g (top st height)) (stackOf st height) .passes ≡ true
   passing d l c = by-split (full g (check g (top st height)) (stackOf st height) .passes) (λ t. t) (λ f. absurd (d (record { framed = l; at-check = c; fails = f })))
 
-  taken : {p : ℕ} → next < g .n → Rule g st height next p → (Denied g st height → ⊥) → p < length st → Step g (stackOf st height) (stackOf (set st p next) (p + 1))
+  taken : {p : ℕ} → next < g .size .n → Rule g st height next p → (Denied g st height → ⊥) → p < length st → Step g (stackOf st height) (stackOf (set st p next) (p + 1))
   taken {p} n (Rule.enter e t) d l = step-by (ap (stackOf st) e ∙ bare st) (written st next 0 l ∙ ap (λ r. next ∷ r) (bare st)) (Step.enter n t)
   taken n (Rule.call h k j) d l = step-by (topped st height h) (written st next height l ∙ ap (λ r. next ∷ r) (topped st height h)) (Step.call k j)
   taken n (Rule.pass h k j) d l = step-by (topped st height h) (written st next (height - 1) l) (Step.pass k (rw (topped st height h) at (passing d h k)) j)
@@ -31,6 +31,10 @@ module _ (g : Graph) (st : List ℕ) (height next : ℕ) where
   -- what the call returned and stored is a step
   pub step-sound : {h : ℕ} {after : List ℕ} → Steps g st height next (answer.Moved h) after → Step g (stackOf st height) (stackOf after h)
   step-sound (Steps.moved k u d l) = taken (k .below) u d l
+
+  -- so what the call makes of a reachable stack is reachable
+  pub step-reaches : {h : ℕ} {after : List ℕ} → Reachable g (stackOf st height) → Steps g st height next (answer.Moved h) after → Reachable g (stackOf after h)
+  step-reaches r s = Reachable.then r (step-sound s)
 
 -- ---- every step of the rules is one that the call takes, where the slice has the place
 
@@ -81,7 +85,7 @@ module _ (g : Graph) (st : List ℕ) (height : ℕ) where
   pub step-complete : {t : List ℕ} → Step g (stackOf st height) t → Can t
   step-complete s = can s refl
 
-  pub step-takes : {t : List ℕ} (s : Step g (stackOf st height) t) → Asks g (step-complete s .next < g .n) st height → step-complete s .place < length st
+  pub step-takes : {t : List ℕ} (s : Step g (stackOf st height) t) → Asks g (step-complete s .next < g .size .n) st height → step-complete s .place < length st
       → Steps g st height (step-complete s .next) (answer.Moved (step-complete s .place + 1)) (set st (step-complete s .place) (step-complete s .next))
       × (stackOf (set st (step-complete s .place) (step-complete s .next)) (step-complete s .place + 1) ≡ t)
   step-takes s a l =

@@ -23,10 +23,10 @@ in-range-requires : tie.Need-in-range-requires
 in-range-requires c κs = search needs
 
 returns-2 : tie.Need-returns-2
-returns-2 c = sym (ap headerOf (header-out _ _ (three-told _ (sym (c .before .before .before .before .before .read-three .ensures) ∙ c .before .before .before .three .given .1)) (false-says (range? _ _ _) (says-false (c .before .in-range .ensures) (not-true _ (c .if1 .taken))))))
+returns-2 c = sym (ap headerOf (header-out _ _ (three-told _ (sym (c .before .before .before .before .before .read-three .ensures) ∙ c .before .before .before .three .given .1)) (false-says (range? _) (says-false (c .before .in-range .ensures) (not-true _ (c .if1 .taken))))))
 
 returns-3 : tie.Need-returns-3
-returns-3 c = sym (ap headerOf (header-all _ _ (three-told _ (sym (c .before .before .before .before .before .read-three .ensures) ∙ c .before .before .before .three .given .1)) (true-says (range? _ _ _) (says-true (c .before .in-range .ensures) (not-false _ (c .if1 .left))))))
+returns-3 c = sym (ap headerOf (header-all _ _ (three-told _ (sym (c .before .before .before .before .before .read-three .ensures) ∙ c .before .before .before .three .given .1)) (true-says (range? _) (says-true (c .before .in-range .ensures) (not-false _ (c .if1 .left))))))
 
 pub read-header-spec : {M : Type 1} → statement M
 read-header-spec =

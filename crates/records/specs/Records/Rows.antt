@@ -13,7 +13,7 @@ use Rattle.lex.specs.declared.Listed.the-variants as listed
 use Rattle.lex.specs.declared.Piece.{Piece}
 use Rattle.lex.specs.declared.Piece.the-variants.{Part, NoPart}
 use Rattle.truth.specs.Truth.Tests.{says-true}
-use Rattle.graph.specs.Graph.{Ranges}
+use Rattle.graph.specs.Graph.{sizeOf, Ranges}
 use Rattle.graph.specs.Judge.{rangeTest}
 use Rattle.graph.specs.Judge.Laws.{range?}
 use Rattle.records.specs.declared.Form.{Form}
@@ -34,7 +34,7 @@ use Rattle.records.specs.declared.ThreeRow.the-variants as three
 use Rattle.records.specs.declared.Edge.{Edge}
 use Rattle.records.specs.declared.EdgeRow.{EdgeRow}
 use Rattle.records.specs.declared.EdgeRow.the-variants as edge
-use Rattle.records.specs.declared.Counts.{Counts}
+use Rattle.graph.specs.declared.Size.{Size}
 use Rattle.records.specs.declared.Header.{Header}
 use Rattle.records.specs.declared.Header.the-variants as header
 use Rattle.records.specs.Records.Forms.{Below, number, check, kind, marks, form-below}
@@ -63,7 +63,7 @@ abbrev pub edgeRowOf : Got Edge → EdgeRow
 edgeRowOf (got x next) = edge.At x next
 edgeRowOf no = edge.Wrong
 
-abbrev pub headerOf : Got Counts → Header
+abbrev pub headerOf : Got Size → Header
 headerOf (got x next) = header.At x next
 headerOf no = header.Wrong
 
@@ -188,11 +188,11 @@ pub three-told : (g : Got Three) {y : ThreeRow} → threeRowOf g ≡ y → g ≡
 three-told (got x p) e = ap threeRow e
 three-told no e = ap threeRow e
 
-abbrev pub headerRow : Header → Got Counts
+abbrev pub headerRow : Header → Got Size
 headerRow (header.At x next) = got x next
 headerRow header.Wrong = no
 
-pub header-told : (g : Got Counts) {y : Header} → headerOf g ≡ y → g ≡ headerRow y
+pub header-told : (g : Got Size) {y : Header} → headerOf g ≡ y → g ≡ headerRow y
 header-told (got x p) e = ap headerRow e
 header-told no e = ap headerRow e
 
@@ -335,21 +335,21 @@ module _ (s : List ℕ) (at : ℕ) where
   header-none e = simp e
 
   module _ {x : Three} {p : ℕ} (e : threeAt 71 Number s at ≡ got x p) where
-    pub header-out : rangeTest (x .a) (x .b) (x .c) ≡ false → headerAt s at ≡ no
+    pub header-out : rangeTest (sizeOf (x .a) (x .b) (x .c)) ≡ false → headerAt s at ≡ no
     unfolding headerAt
     header-out f = simp (e, f)
 
-    pub header-all : rangeTest (x .a) (x .b) (x .c) ≡ true → headerAt s at ≡ got (record { k = x .a; n = x .b; m = x .c }) p
+    pub header-all : rangeTest (sizeOf (x .a) (x .b) (x .c)) ≡ true → headerAt s at ≡ got (sizeOf (x .a) (x .b) (x .c)) p
     unfolding headerAt
     header-all f = simp (e, f)
 
 -- the counts of a first row are in range
-pub header-ranges : (s : List ℕ) (at : ℕ) {c : Counts} {p : ℕ} → headerAt s at ≡ got c p → Ranges (c .k) (c .n) (c .m)
+pub header-ranges : (s : List ℕ) (at : ℕ) {c : Size} {p : ℕ} → headerAt s at ≡ got c p → Ranges c
 header-ranges s at {c} {p} e = by-row (threeAt 71 Number s at) refl
   where
-    by-row : (g : Got Three) → threeAt 71 Number s at ≡ g → Ranges (c .k) (c .n) (c .m)
+    by-row : (g : Got Three) → threeAt 71 Number s at ≡ g → Ranges c
     by-row no f = none-got (sym (header-none s at f) ∙ e)
     by-row (got x q) f =
-        by-split (rangeTest (x .a) (x .b) (x .c))
-        (λ t. let i = got-first (sym (header-all s at f t) ∙ e) in subst (λ (y : Counts). Ranges (y .k) (y .n) (y .m)) i (says-true (range? _ _ _) t))
+        by-split (rangeTest (sizeOf (x .a) (x .b) (x .c)))
+        (λ t. let i = got-first (sym (header-all s at f t) ∙ e) in subst Ranges i (says-true (range? _) t))
         (λ t. none-got (sym (header-out s at f t) ∙ e))

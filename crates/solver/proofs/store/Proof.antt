@@ -13,7 +13,7 @@ slice-aggregate-link-2 : tie.Need-slice-aggregate-link-2
 slice-aggregate-link-2 c = refl
 
 link-requires : tie.Need-link-requires
-link-requires c κs = let a = c .before .before .before .before .before .before .before .before .before .before .before .before .before .before .pre .0 in ((a .shape .edges .froms-long, omega (arith, a .shape .ranges .m-high), omega (arith, a .shape .ranges .m-high), omega (arith, a .shape .ranges .n-high)), (λ e l. (a .edges e l) .from-node, λ i l. getD-replicate 1024 i 0 0 (omega (arith, a .shape .ranges .n-high))))
+link-requires c κs = let a = c .before .before .before .before .before .before .before .before .before .before .before .before .before .before .pre .0 in ((a .shape .edges .froms, omega (arith, a .shape .ranges .m-high), omega (arith, a .shape .ranges .m-high), omega (arith, a .shape .ranges .n-high)), (λ e l. (a .edges e l) .from-node, λ i l. getD-replicate 1024 i 0 0 (omega (arith, a .shape .ranges .n-high))))
 
 slice-aggregate-run : tie.Need-slice-aggregate-run
 slice-aggregate-run c = refl
@@ -58,7 +58,7 @@ slice-aggregate-store-nodes-2 : tie.Need-slice-aggregate-store-nodes-2
 slice-aggregate-store-nodes-2 c = sym (c .before .before .before .before .before .before .before .before .run2 .kept .0)
 
 store-nodes-requires : tie.Need-store-nodes-requires
-store-nodes-requires c κs = let s = c .before .before .before .before .before .before .before .before .before .before .before .before .before .before .before .before .before .before .before .before .before .before .before .before .before .before .before .before .before .before .before .before .before .before .before .before .before .before .before .before .before .before .before .before .before in let a = s .pre .0 .shape in (omega (arith, s .pre .1 .denied-long), omega (arith, s .pre .1 .granted-long), omega (arith, a .nodes .privileged-long), omega (arith, a .nodes .grants-long), omega (arith, c .before .before .before .before .before .before .before .before .before .before .before .before .before .before .before .before .before .before .before .before .run .kept .0, a .ranges .n-high), omega (arith, c .before .before .before .before .before .before .before .before .run2 .kept .0, a .ranges .n-high))
+store-nodes-requires c κs = let s = c .before .before .before .before .before .before .before .before .before .before .before .before .before .before .before .before .before .before .before .before .before .before .before .before .before .before .before .before .before .before .before .before .before .before .before .before .before .before .before .before .before .before .before .before .before in let a = s .pre .0 .shape in (omega (arith, s .pre .1 .denied-long), omega (arith, s .pre .1 .granted-long), omega (arith, a .nodes .privileged), omega (arith, a .nodes .grants), omega (arith, c .before .before .before .before .before .before .before .before .before .before .before .before .before .before .before .before .before .before .before .before .run .kept .0, a .ranges .n-high), omega (arith, c .before .before .before .before .before .before .before .before .run2 .kept .0, a .ranges .n-high))
 
 same-length : tie.Need-same-length
 same-length c = c .before .before .before .before .store-nodes .kept .0

@@ -42,7 +42,7 @@ returns-3 c =
 shared-slice-read-if3 : tie.Need-shared-slice-read-if3
 shared-slice-read-if3 c =
     let a = accepted-is (rw (c .before .before .enum-told .given .1) at (c .before .before .before .before .check .ensures)) in
-    omega (arith, a .shape .nodes .kinds-long)
+    omega (arith, a .shape .nodes .kinds)
 
 returns-4 : tie.Need-returns-4
 returns-4 c =
@@ -61,7 +61,7 @@ mul-rule c =
 shared-slice-read-rule : tie.Need-shared-slice-read-rule
 shared-slice-read-rule c =
     let a = accepted-is (rw (c .before .before .before .before .enum-told .given .1) at (c .before .before .before .before .before .before .check .ensures)) in
-    omega (arith, a .shape .nodes .checks-long)
+    omega (arith, a .shape .nodes .checks)
 
 rule-requires : tie.Need-rule-requires
 rule-requires c κs =

@@ -3,7 +3,7 @@ use mathlib.Core.Path.{_≡_, refl, _∙_}
 use native.Mathlib.Omega.{arith}
 use lib.ListN.{length, getD, length-set}
 use borrow.Author.Needs.{needs}
-use Rattle.graph.specs.Graph.{Graph, graphOf}
+use Rattle.graph.specs.Graph.{Graph, graphOf, sizeOf}
 use Rattle.flow.specs.Walk.{systemOf, state, State, toDo, Walking}
 use Rattle.flow.specs.Walk.Taken.{top-low, node-reads, first-low, sendable, turn}
 use Rattle.solver.proofs.walk.Statement.{statement}
@@ -11,7 +11,7 @@ use Rattle.solver.proofs.walk.Tie as tie
 
 abbrev Inv-loop : tie.InvT-loop
 Inv-loop ins₀ past₀ marks₀ stack₀ sure k n m kinds checks privileged entries grants froms tos ways wide any head prev top₀ ins past marks stack top =
-    Walking (graphOf k n m kinds checks privileged entries grants froms tos ways) (systemOf sure) wide any (state ins past marks stack top) × (length ins ≡ length ins₀) × (length past ≡ length past₀) × (length marks ≡ length marks₀) × (length stack ≡ length stack₀)
+    Walking (graphOf (sizeOf k n m) kinds checks privileged entries grants froms tos ways) (systemOf sure) wide any (state ins past marks stack top) × (length ins ≡ length ins₀) × (length past ≡ length past₀) × (length marks ≡ length marks₀) × (length stack ≡ length stack₀)
 
 abbrev μ-loop : tie.MeasureT-loop
 μ-loop ins₀ past₀ marks₀ stack₀ sure k n m kinds checks privileged entries grants froms tos ways wide any head prev top₀ ins past marks stack top =
@@ -23,7 +23,7 @@ module _ (c : tie.In-loop Inv-loop μ-loop) where
   start = c .before .before .before .before .before .before .before .before .before .before .before .before .before .before .before .before .before .before
 
   abbrev g : Graph
-  g = graphOf (start .args .k) (start .args .n) (start .args .m) (start .args .kinds .now) (start .args .checks .now) (start .args .privileged .now) (start .args .entries .now) (start .args .grants .now) (start .args .froms .now) (start .args .tos .now) (start .args .ways .now)
+  g = graphOf (sizeOf (start .args .k) (start .args .n) (start .args .m)) (start .args .kinds .now) (start .args .checks .now) (start .args .privileged .now) (start .args .entries .now) (start .args .grants .now) (start .args .froms .now) (start .args .tos .now) (start .args .ways .now)
 
   abbrev x : State
   x = state (c .before .loop .ins) (c .before .loop .past) (c .before .loop .marks) (c .before .loop .stack) (c .before .loop .top)

@@ -82,7 +82,7 @@ check-requires c κs = search needs
 returns : tie.Need-returns
 returns c =
     let a = c .before .before .before .before .before .before .before .before .before .before .before .before .before .before .before .before .before .args in
-    judged-held (lentOf (a .ks .now) (a .cs .now) (a .ps .now) (a .es .now) (a .gs .now) (a .fs .now) (a .ts .now) (a .ws .now)) (c .check .ensures)
+    judged-held (lentOf (a .ks .now) (a .cs .now) (a .ps .now) (a .es .now) (a .gs .now) (a .fs .now) (a .ts .now) (a .ws .now)) (a .counts) (c .check .ensures)
 
 pub judge-spec : {M : Type 1} → statement M
 judge-spec =

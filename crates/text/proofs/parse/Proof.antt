@@ -26,14 +26,8 @@ parse-rows-requires c κs =
       record {
         n-high = r .n-high;
         m-high = r .m-high;
-        kinds-high = omega (arith, r .n-high, p .kinds-long);
-        checks-high = omega (arith, r .n-high, p .checks-long);
-        privileged-high = omega (arith, r .n-high, p .privileged-long);
-        entries-high = omega (arith, r .n-high, p .entries-long);
-        grants-high = omega (arith, r .n-high, p .grants-long);
-        froms-high = omega (arith, r .m-high, p .froms-long);
-        tos-high = omega (arith, r .m-high, p .tos-long);
-        ways-high = omega (arith, r .m-high, p .ways-long);
+        nodes = let a = p .nodes in record { kinds = omega (arith, r .n-high); checks = omega (arith, r .n-high); privileged = omega (arith, r .n-high); entries = omega (arith, r .n-high); grants = omega (arith, r .n-high) };
+        edges = let a = p .edges in record { froms = omega (arith, r .m-high); tos = omega (arith, r .m-high); ways = omega (arith, r .m-high) };
       },
     )
 

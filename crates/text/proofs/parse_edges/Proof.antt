@@ -26,7 +26,7 @@ same-length-3 c = search needs
 returns : tie.Need-returns
 returns c =
     let e = c .before .before .before .before .before .before .before .read-edges .ensures in
-    record { answer = c .end-text .ensures ∙ tail-by _ _ _ _ (e .answer); froms-so = e .froms-so; tos-so = e .tos-so; ways-so = e .ways-so }
+    record { answer = c .end-text .ensures ∙ tail-by _ _ _ _ (e .answer); so = e .so }
 
 pub parse-edges-spec : {M : Type 1} → statement M
 parse-edges-spec =

@@ -26,7 +26,7 @@ add-parse-edges c = omega (arith, c .before .before .before .before .before .bef
 parse-edges-requires : tie.Need-parse-edges-requires
 parse-edges-requires c κs =
     let q = c .before .before .before .before .before .before .before .before .before .before .before .before .before .before .before .before .before .before .before .before .before .before .before .before .before .before .before .before .before .before .before .before .pre .1 in
-    ((omega (arith, c .before .before .before .before .before .before .before .before .before .before .before .before .before .before .before .before .before .before .before .before .before .before .before .before .before .before .before .before .before .before .before .before .pre .0, q .n-high), q .m-high), q .froms-high, q .tos-high, q .ways-high)
+    ((omega (arith, c .before .before .before .before .before .before .before .before .before .before .before .before .before .before .before .before .before .before .before .before .before .before .before .before .before .before .before .before .before .before .before .before .pre .0, q .n-high), q .m-high), q .edges .froms, q .edges .tos, q .edges .ways)
 
 same-length : tie.Need-same-length
 same-length c = search needs
@@ -51,7 +51,7 @@ returns c =
     let n = edges-stop (a .s .now) (a .from) (a .counts) e in
     record {
       answer = sym (rest-stop (a .s .now) (a .from) (a .counts) _ e);
-      so = record { kinds-so = r .kinds-so; checks-so = r .checks-so; privileged-so = r .privileged-so; entries-so = r .entries-so; grants-so = r .grants-so; froms-so = rw n; tos-so = rw n; ways-so = rw n };
+      so = record { nodes = r .so; edges = record { froms = rw n; tos = rw n; ways = rw n } };
     }
 
 same-length-6 : tie.Need-same-length-6
@@ -87,7 +87,7 @@ returns-2 c =
     let n = edges-past (a .s .now) (a .from) (a .counts) e in
     record {
       answer = t .answer ∙ sym (rest-past (a .s .now) (a .from) (a .counts) _ e);
-      so = record { kinds-so = r .kinds-so; checks-so = r .checks-so; privileged-so = r .privileged-so; entries-so = r .entries-so; grants-so = r .grants-so; froms-so = rw n (t .froms-so); tos-so = rw n (t .tos-so); ways-so = rw n (t .ways-so) };
+      so = record { nodes = r .so; edges = rw n (t .so) };
     }
 
 pub parse-rows-spec : {M : Type 1} → statement M

@@ -40,7 +40,7 @@ returns c =
     let v = c .before .before .before .before .loop .inv in
     let h = c .before .before .before .loop-test .taken in
     let w = edge-told _ (sym (c .before .before .read-edge .ensures) ∙ c .enum-told .given .1) in
-    record { answer = end-stop _ _ _ h w (v .0); froms-so = slot-stop _ _ _ (v .1) h w; tos-so = slot-stop _ _ _ (v .2) h w; ways-so = slot-stop _ _ _ (v .3) h w }
+    record { answer = end-stop _ _ _ h w (v .0); so = record { froms = slot-stop _ _ _ (v .1) h w; tos = slot-stop _ _ _ (v .2) h w; ways = slot-stop _ _ _ (v .3) h w } }
 
 mul-froms : tie.Need-mul-froms Inv-loop μ-loop
 mul-froms c = omega arith
@@ -84,7 +84,7 @@ returns-2 : tie.Need-returns-2 Inv-loop μ-loop
 returns-2 c =
     let v = c .before .loop .inv in
     let h = c .loop-test .left in
-    record { answer = end-out _ _ _ h (v .0); froms-so = slot-out _ _ _ (v .1) h; tos-so = slot-out _ _ _ (v .2) h; ways-so = slot-out _ _ _ (v .3) h }
+    record { answer = end-out _ _ _ h (v .0); so = record { froms = slot-out _ _ _ (v .1) h; tos = slot-out _ _ _ (v .2) h; ways = slot-out _ _ _ (v .3) h } }
 
 pub read-edges-spec : {M : Type 1} → statement M
 read-edges-spec =

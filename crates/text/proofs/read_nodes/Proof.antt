@@ -47,7 +47,7 @@ returns c =
     let h = c .before .before .before .loop-test .taken in
     let l = c .before .before .before .before .loop in
     let w = node-told (nodeAt (c .before .before .before .before .before .before .before .before .before .before .before .args .s .now) (l .p) (l .i)) (sym (c .before .before .read-node .ensures) ∙ c .enum-told .given .1) in
-    record { answer = end-stop _ _ _ h w (v .0); kinds-so = slot-stop _ _ _ (v .1) h w; checks-so = slot-stop _ _ _ (v .2) h w; privileged-so = slot-stop _ _ _ (v .3) h w; entries-so = slot-stop _ _ _ (v .4) h w; grants-so = slot-stop _ _ _ (v .5) h w }
+    record { answer = end-stop _ _ _ h w (v .0); so = record { kinds = slot-stop _ _ _ (v .1) h w; checks = slot-stop _ _ _ (v .2) h w; privileged = slot-stop _ _ _ (v .3) h w; entries = slot-stop _ _ _ (v .4) h w; grants = slot-stop _ _ _ (v .5) h w } }
 
 slice-write-kinds : tie.Need-slice-write-kinds Inv-loop μ-loop
 slice-write-kinds c = omega arith
@@ -104,7 +104,7 @@ returns-2 : tie.Need-returns-2 Inv-loop μ-loop
 returns-2 c =
     let v = c .before .loop .inv in
     let h = c .loop-test .left in
-    record { answer = end-out _ _ _ h (v .0); kinds-so = slot-out _ _ _ (v .1) h; checks-so = slot-out _ _ _ (v .2) h; privileged-so = slot-out _ _ _ (v .3) h; entries-so = slot-out _ _ _ (v .4) h; grants-so = slot-out _ _ _ (v .5) h }
+    record { answer = end-out _ _ _ h (v .0); so = record { kinds = slot-out _ _ _ (v .1) h; checks = slot-out _ _ _ (v .2) h; privileged = slot-out _ _ _ (v .3) h; entries = slot-out _ _ _ (v .4) h; grants = slot-out _ _ _ (v .5) h } }
 
 pub read-nodes-spec : {M : Type 1} → statement M
 read-nodes-spec =

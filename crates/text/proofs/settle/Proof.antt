@@ -1,5 +1,4 @@
 use Rattle.text.specs.Text.Parts.{settled, unsettled}
-use Rattle.text.specs.Text.Laws.{room-nodes, room-edges}
 use borrow.Author.Needs.{needs}
 use Rattle.text.proofs.settle.Statement.{statement}
 use Rattle.text.proofs.settle.Tie as tie
@@ -19,12 +18,12 @@ enum-told c = search needs
 store-nodes-requires : tie.Need-store-nodes-requires
 store-nodes-requires c κs =
     let p = c .before .before .before .before .before .before .before .before .before .before .before .before .before .before .before .before .before .before .before .before .before .before .before .before .pre in
-    ((p .0 .0, room-nodes (p .1)), room-nodes (p .2))
+    ((p .0 .0, p .1 .nodes), p .2 .nodes)
 
 store-edges-requires : tie.Need-store-edges-requires
 store-edges-requires c κs =
     let p = c .before .before .before .before .before .before .before .before .before .before .before .before .before .before .before .before .before .before .before .before .before .before .before .before .before .before .before .before .before .before .before .before .before .before .before .before .before .before .pre in
-    ((p .0 .1, room-edges (p .1)), room-edges (p .2))
+    ((p .0 .1, p .1 .edges), p .2 .edges)
 
 same-length : tie.Need-same-length
 same-length c = search needs

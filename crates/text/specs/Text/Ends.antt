@@ -10,7 +10,7 @@ use borrow.Author.Tests.{lt-ltb, le-ltb, ltb-true, ltb-false}
 use Rattle.truth.specs.Truth.Bools.{by-split}
 use Rattle.records.specs.declared.Node.{Node}
 use Rattle.records.specs.declared.Edge.{Edge}
-use Rattle.records.specs.declared.Counts.{Counts}
+use Rattle.graph.specs.declared.Size.{Size}
 use Rattle.records.specs.Records.{Got, got, no, headerAt, nodeAt, kept}
 use Rattle.records.specs.Records.Rows.{header-ranges}
 use Rattle.text.specs.declared.Ran.{Ran}
@@ -91,7 +91,7 @@ kept-rows s (suc n) p i = by (nodeAt s p i) refl (λ q. kept-rows s n q (i + 1))
 
 -- ---- the parts
 
-module _ {ran : Ran} (len row : ℕ) (c : Counts) where
+module _ {ran : Ran} (len row : ℕ) (c : Size) where
   pub tail-stop : {j : ℕ} → ran ≡ Stop j → tailFrom ran len row c ≡ Wrong (row + j)
   unfolding tailFrom
   tail-stop e = simp e
@@ -104,7 +104,7 @@ module _ {ran : Ran} (len row : ℕ) (c : Counts) where
   unfolding tailFrom
   tail-done e h = simp (e, le-ltb _ _ h)
 
-module _ (s : List ℕ) (p : ℕ) (c : Counts) where
+module _ (s : List ℕ) (p : ℕ) (c : Size) where
   pub tail-by : {r : Ran} (row : ℕ) → r ≡ endFrom (edgeRow s) (c .m) p 0 → tailFrom r (length s) row c ≡ tailOf s p row c
   unfolding tailOf
   tail-by row e = ap (λ (x : Ran). tailFrom x (length s) row c) e
@@ -135,7 +135,7 @@ module _ (s : List ℕ) (from row : ℕ) where
   pub parse-none : {before after : Lent} → headerAt s from ≡ no → Parses before s from row (Wrong row) after
   parse-none e = faulty (text-none e)
 
-  module _ {c : Counts} {p : ℕ} (e : headerAt s from ≡ got c p) where
+  module _ {c : Size} {p : ℕ} (e : headerAt s from ≡ got c p) where
     text-node : {i : ℕ} → rowsAt (nodeAt s) (c .n) p 0 ≡ stop i → textAt s from row ≡ wrong (row + 1 + i)
     unfolding textAt
     text-node f = simp (e, f)

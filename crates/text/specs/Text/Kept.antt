@@ -13,14 +13,14 @@ use borrow.Author.Tests.{lt-ltb}
 use Rattle.truth.specs.Truth.{All, First}
 use Rattle.truth.specs.Truth.Bools.{by-split}
 use Rattle.sets.specs.Sets.Members.{below-members}
-use Rattle.graph.specs.Graph.{Graph, NodeRule, NodeObeys, Ranges, Shape, Acceptable}
+use Rattle.graph.specs.Graph.{sizeOf, nodesOf, mapNode, mapEdge, NodesLong, EdgesLong, Graph, NodeRule, NodeObeys, Ranges, Shape, Acceptable}
 use Rattle.graph.specs.Refusals.{Numbered}
 use Rattle.graph.specs.Judge.{Refuses, Judges}
 use Rattle.graph.specs.declared.Judged.{Judged}
 use Rattle.records.specs.declared.Node.{Node}
 use Rattle.records.specs.declared.Edge.{Edge}
 use Rattle.records.specs.Records.{kept}
-use Rattle.text.specs.Text.{graphFrom}
+use Rattle.text.specs.Text.{graphFrom, nodeColumns, edgeColumns}
 
 abbrev pub keptAll : List Node → List Node
 keptAll = map kept
@@ -28,7 +28,7 @@ keptAll = map kept
 -- ---- a node that obeys its rule is kept as it is
 
 abbrev Obeys : ℕ → Node → Type 0
-Obeys k x = NodeRule k (x .kind) (x .check) (x .privileged) (x .entry) (x .grants)
+Obeys k x = NodeRule k (nodesOf (x .kind) (x .check) (x .privileged) (x .entry) (x .grants))
 
 kept-obeying : (k : ℕ) (x : Node) → Obeys k (kept x) → kept x ≡ x
 kept-obeying k x r = by-split (ltb (x .grants) (2 ^ 64)) (λ t. rw t refl) (λ t. absurd (omega (arith, rw t at (r .kind-known))))
@@ -48,11 +48,17 @@ module _ (k : ℕ) (es : List Edge) where
 
 -- ---- a text's slices are as long as its counts say, so that only its counts can break the shape
 
+pub columns-long : (ns : List Node) → NodesLong (length ns) (mapNode length (nodeColumns ns))
+columns-long ns = record { kinds = length-map ns _; checks = length-map ns _; privileged = length-map ns _; entries = length-map ns _; grants = length-map ns _ }
+
+pub edge-columns-long : (es : List Edge) → EdgesLong (length es) (mapEdge length (edgeColumns es))
+edge-columns-long es = record { froms = length-map es _; tos = length-map es _; ways = length-map es _ }
+
 shape-same : {k : ℕ} (ms ns : List Node) (es : List Edge) → length ms ≡ length ns → Shape (graphFrom k ms es) → Shape (graphFrom k ns es)
 shape-same {k} ms ns es e s = record {
-  ranges = subst (λ n. Ranges k n (length es)) e (s .ranges);
-  nodes = record { kinds-long = length-map ns _; checks-long = length-map ns _; privileged-long = length-map ns _; entries-long = length-map ns _; grants-long = length-map ns _ };
-  edges = record { froms-long = length-map es _; tos-long = length-map es _; ways-long = length-map es _ };
+  ranges = subst (λ n. Ranges (sizeOf k n (length es))) e (s .ranges);
+  nodes = columns-long ns;
+  edges = edge-columns-long es;
 }
 
 -- ---- the judge's answer

@@ -5,134 +5,119 @@ use mathlib.Core.Bool.{Bool, true, false}
 use mathlib.Core.List.{List, map}
 use native.Mathlib.Omega.{arith}
 use native.Mathlib.Nat.{sub-zero}
+use lib.Dec.{eqb, ltb}
 use lib.ListN.{length, take, drop, length-map}
 use lib.Seq.{sets, length-sets}
 use Rattle.truth.specs.Truth.Kit.{take-sets}
 use Rattle.truth.specs.Truth.{Says}
 use borrow.Author.Tests.{lt-ltb, le-ltb}
+use Rattle.truth.specs.Truth.Bools.{by-split}
 use Rattle.truth.specs.Truth.Tests.{says-same, true-says, false-says, eq?, and?}
-use Rattle.graph.specs.Graph.{Graph, graphOf, NodesLong, EdgesLong, Ranges}
+use Rattle.graph.specs.Graph.{Graph, sizeOf, PerNode, PerEdge, nodesOf, edgesOf, mapNode, mapEdge, NodesLong, EdgesLong, Ranges, Acceptable}
 use Rattle.graph.specs.Refusals.{numbered, numbered-one, _at_}
 use Rattle.graph.specs.Judge.{Judges, judge}
-use Rattle.graph.specs.Judge.Laws.{judges-judge, accepted-is}
+use Rattle.graph.specs.Judge.Laws.{judge-judges, judges-judge, accepted-is, each-node?, each-edge?}
 use Rattle.graph.specs.declared.Refusal.{Refusal}
 use Rattle.graph.specs.declared.Refusal.the-variants as why
 use Rattle.graph.specs.declared.Judged.{Judged}
 use Rattle.graph.specs.declared.Judged.the-variants as judged
 use Rattle.records.specs.declared.Node.{Node}
 use Rattle.records.specs.declared.Edge.{Edge}
-use Rattle.records.specs.declared.Counts.{Counts}
+use Rattle.graph.specs.declared.Size.{Size}
 use Rattle.records.specs.Records.{kept}
 use Rattle.text.specs.declared.Sizes.the-variants.{Fit, NoRoom, TooLong}
 use Rattle.text.specs.declared.Parsed.{Parsed}
 use Rattle.text.specs.declared.Parsed.the-variants.{Counted, Wrong}
 use Rattle.text.specs.declared.Reading.{Reading}
 use Rattle.text.specs.declared.Reading.the-variants as answer
-use Rattle.text.specs.Text.{Meaning, says, wrong, textAt, kinds, checks, privilegeds, entries, grants, froms, tos, ways, graphFrom, Lent, lentOf, roomy, Outcome, read, refused, onJudged, onMeaning, reading, Stores, Tells, stored, refuses}
-use Rattle.text.specs.Text.Kept.{keptAll, kept-judges, kept-same}
+use Rattle.text.specs.Text.{Meaning, says, wrong, textAt, nodeColumns, edgeColumns, graphFrom, NodesWritten, EdgesWritten, Lent, lentOf, roomy, Outcome, read, refused, onJudged, onMeaning, outcome, reading, Stores, Tells, stored, refuses}
+use Rattle.text.specs.Text.Kept.{columns-long, edge-columns-long, keptAll, kept-judges, kept-same}
 use Rattle.text.specs.Text.Parts.{Room, Parses, counted, faulty, heldGraph, Copied, Settles, settled, unsettled, SizesSo, cramped, long, fit}
 
-pub room-nodes : {x : Lent} → Room x → NodesLong 1024 (length (x .kinds)) (length (x .checks)) (length (x .privileged)) (length (x .entries)) (length (x .grants))
-room-nodes r = record { kinds-long = r .kinds-long; checks-long = r .checks-long; privileged-long = r .privileged-long; entries-long = r .entries-long; grants-long = r .grants-long }
-
-pub room-edges : {x : Lent} → Room x → EdgesLong 4096 (length (x .froms)) (length (x .tos)) (length (x .ways))
-room-edges r = record { froms-long = r .froms-long; tos-long = r .tos-long; ways-long = r .ways-long }
-
 -- the first places of each slice, as the check is lent them
-pub judged-held : (x : Lent) {k n m : ℕ} {j : Judged}
-    → Judges (graphOf k n m (take (n - 0) (drop 0 (x .kinds))) (take (n - 0) (drop 0 (x .checks))) (take (n - 0) (drop 0 (x .privileged))) (take (n - 0) (drop 0 (x .entries))) (take (n - 0) (drop 0 (x .grants))) (take (m - 0) (drop 0 (x .froms))) (take (m - 0) (drop 0 (x .tos))) (take (m - 0) (drop 0 (x .ways)))) j
-    → Judges (heldGraph k n m x) j
-judged-held x {k} {n} {m} h = rw (sub-zero n, sub-zero m) at h
+pub judged-held : (x : Lent) (c : Size) {j : Judged}
+    → Judges (record { size = c; nodes = mapNode (λ l. take (c .n - 0) (drop 0 l)) (x .nodes); edges = mapEdge (λ l. take (c .m - 0) (drop 0 l)) (x .edges) }) j
+    → Judges (heldGraph c x) j
+judged-held x c h = rw (sub-zero (c .n), sub-zero (c .m)) at h
 
 -- ---- what was parsed
 
-pub record Said (c : Counts) (before : Lent) (s : List ℕ) (from row : ℕ) (after : Lent) : Type 0 where
+pub record Said (c : Size) (before : Lent) (s : List ℕ) (from row : ℕ) (after : Lent) : Type 0 where
   pub ns : List Node
   pub es : List Edge
-  pub ranges : Ranges (c .k) (c .n) (c .m)
+  pub ranges : Ranges c
   pub means : textAt s from row ≡ says (c .k) ns es
   pub n-is : c .n ≡ length ns
   pub m-is : c .m ≡ length es
   pub so : Stores before (keptAll ns) es after
 
-pub counted-is : {c : Counts} {before : Lent} {s : List ℕ} {from row : ℕ} {after : Lent} → Parses before s from row (Counted c) after → Said c before s from row after
+pub counted-is : {c : Size} {before : Lent} {s : List ℕ} {from row : ℕ} {after : Lent} → Parses before s from row (Counted c) after → Said c before s from row after
 counted-is (counted {ns = ns} {es = es} r e n m h) = record { ns = ns; es = es; ranges = r; means = e; n-is = n; m-is = m; so = h }
 
 pub faulty-is : {x : ℕ} {before : Lent} {s : List ℕ} {from row : ℕ} {after : Lent} → Parses before s from row (Wrong x) after → textAt s from row ≡ wrong x
 faulty-is (faulty e) = e
 
+-- what is written keeps the lengths
+wrote : {n : ℕ} (l v l′ : List ℕ) → l′ ≡ sets l 0 v → length l ≡ n → length l′ ≡ n
+wrote l v l′ e h = ap length e ∙ length-sets l 0 v ∙ h
+
 pub stores-room : {before after : Lent} {ns : List Node} {es : List Edge} → Stores before ns es after → Room before → Room after
-stores-room {before} {after} {ns} {es} h r = record {
-  kinds-long = ap length (h .kinds-so) ∙ length-sets (before .kinds) 0 (kinds ns) ∙ r .kinds-long;
-  checks-long = ap length (h .checks-so) ∙ length-sets (before .checks) 0 (checks ns) ∙ r .checks-long;
-  privileged-long = ap length (h .privileged-so) ∙ length-sets (before .privileged) 0 (privilegeds ns) ∙ r .privileged-long;
-  entries-long = ap length (h .entries-so) ∙ length-sets (before .entries) 0 (entries ns) ∙ r .entries-long;
-  grants-long = ap length (h .grants-so) ∙ length-sets (before .grants) 0 (grants ns) ∙ r .grants-long;
-  froms-long = ap length (h .froms-so) ∙ length-sets (before .froms) 0 (froms es) ∙ r .froms-long;
-  tos-long = ap length (h .tos-so) ∙ length-sets (before .tos) 0 (tos es) ∙ r .tos-long;
-  ways-long = ap length (h .ways-so) ∙ length-sets (before .ways) 0 (ways es) ∙ r .ways-long;
-}
+stores-room {before} {after} {ns} {es} h r =
+    let cs = nodeColumns ns in
+    let ds = edgeColumns es in
+    let a = h .nodes in
+    let b = h .edges in
+    let p = r .nodes in
+    let q = r .edges in
+    record {
+      nodes = record { kinds = wrote (before .nodes .kinds) (cs .kinds) (after .nodes .kinds) (a .kinds) (p .kinds); checks = wrote (before .nodes .checks) (cs .checks) (after .nodes .checks) (a .checks) (p .checks); privileged = wrote (before .nodes .privileged) (cs .privileged) (after .nodes .privileged) (a .privileged) (p .privileged); entries = wrote (before .nodes .entries) (cs .entries) (after .nodes .entries) (a .entries) (p .entries); grants = wrote (before .nodes .grants) (cs .grants) (after .nodes .grants) (a .grants) (p .grants) };
+      edges = record { froms = wrote (before .edges .froms) (ds .froms) (after .edges .froms) (b .froms) (q .froms); tos = wrote (before .edges .tos) (ds .tos) (after .edges .tos) (b .tos) (q .tos); ways = wrote (before .edges .ways) (ds .ways) (after .edges .ways) (b .ways) (q .ways) };
+    }
 
 -- what is read back of a slice that so many numbers were written to
 back : (n : ℕ) (l l′ vs : List ℕ) → l′ ≡ sets l 0 vs → n ≡ length vs → n ≤ length l → take n l′ ≡ vs
 back n l l′ vs e q h = ap (take n) e ∙ ap (λ i. take i (sets l 0 vs)) q ∙ take-sets l vs (rw q at h)
 
-module _ {c : Counts} {zeros held : Lent} {s : List ℕ} {from row : ℕ} (d : Said c zeros s from row held) (room : Room zeros) where
-  node-back : (f : Node → ℕ) (l l′ : List ℕ) → l′ ≡ sets l 0 (map f (keptAll (d .ns))) → length l ≡ 1024 → take (c .n) l′ ≡ map f (keptAll (d .ns))
-  node-back f l l′ e h =
-      back (c .n) l l′ (map f (keptAll (d .ns))) e (d .n-is ∙ sym (length-map (d .ns) kept) ∙ sym (length-map (keptAll (d .ns)) f)) (omega (arith, d .ranges .n-high, h))
+nodes-back : {m n : ℕ} {x v y : PerNode (List ℕ)} → n ≤ m → NodesWritten x v y → NodesLong m (mapNode length x) → NodesLong n (mapNode length v) → mapNode (take n) y ≡ v
+nodes-back {m} {n} {x} {v} {y} h w a b =
+    λ i. nodesOf (one (x .kinds) (v .kinds) (y .kinds) (w .kinds) (a .kinds) (b .kinds) i) (one (x .checks) (v .checks) (y .checks) (w .checks) (a .checks) (b .checks) i) (one (x .privileged) (v .privileged) (y .privileged) (w .privileged) (a .privileged) (b .privileged) i) (one (x .entries) (v .entries) (y .entries) (w .entries) (a .entries) (b .entries) i) (one (x .grants) (v .grants) (y .grants) (w .grants) (a .grants) (b .grants) i)
+  where
+    one : (l v l′ : List ℕ) → l′ ≡ sets l 0 v → length l ≡ m → length v ≡ n → take n l′ ≡ v
+    one l v l′ e p q = back n l l′ v e (sym q) (omega (arith, p))
 
-  edge-back : (f : Edge → ℕ) (l l′ : List ℕ) → l′ ≡ sets l 0 (map f (d .es)) → length l ≡ 4096 → take (c .m) l′ ≡ map f (d .es)
-  edge-back f l l′ e h = back (c .m) l l′ (map f (d .es)) e (d .m-is ∙ sym (length-map (d .es) f)) (omega (arith, d .ranges .m-high, h))
+edges-back : {m n : ℕ} {x v y : PerEdge (List ℕ)} → n ≤ m → EdgesWritten x v y → EdgesLong m (mapEdge length x) → EdgesLong n (mapEdge length v) → mapEdge (take n) y ≡ v
+edges-back {m} {n} {x} {v} {y} h w a b = λ i. edgesOf (one (x .froms) (v .froms) (y .froms) (w .froms) (a .froms) (b .froms) i) (one (x .tos) (v .tos) (y .tos) (w .tos) (a .tos) (b .tos) i) (one (x .ways) (v .ways) (y .ways) (w .ways) (a .ways) (b .ways) i)
+  where
+    one : (l v l′ : List ℕ) → l′ ≡ sets l 0 v → length l ≡ m → length v ≡ n → take n l′ ≡ v
+    one l v l′ e p q = back n l l′ v e (sym q) (omega (arith, p))
 
-  kinds-back : take (c .n) (held .kinds) ≡ kinds (keptAll (d .ns))
-  kinds-back = node-back (λ x. x .kind) (zeros .kinds) (held .kinds) (d .so .kinds-so) (room .kinds-long)
+module _ {c : Size} {zeros held : Lent} {s : List ℕ} {from row : ℕ} (d : Said c zeros s from row held) (room : Room zeros) where
+  n-kept : length (keptAll (d .ns)) ≡ c .n
+  n-kept = length-map (d .ns) kept ∙ sym (d .n-is)
 
-  checks-back : take (c .n) (held .checks) ≡ checks (keptAll (d .ns))
-  checks-back = node-back (λ x. x .check) (zeros .checks) (held .checks) (d .so .checks-so) (room .checks-long)
+  nodes-are : mapNode (take (c .n)) (held .nodes) ≡ nodeColumns (keptAll (d .ns))
+  nodes-are = nodes-back (d .ranges .n-high) (d .so .nodes) (room .nodes) (subst (λ n. NodesLong n (mapNode length (nodeColumns (keptAll (d .ns))))) n-kept (columns-long (keptAll (d .ns))))
 
-  privileged-back : take (c .n) (held .privileged) ≡ privilegeds (keptAll (d .ns))
-  privileged-back = node-back (λ x. x .privileged) (zeros .privileged) (held .privileged) (d .so .privileged-so) (room .privileged-long)
+  edges-are : mapEdge (take (c .m)) (held .edges) ≡ edgeColumns (d .es)
+  edges-are = edges-back (d .ranges .m-high) (d .so .edges) (room .edges) (subst (λ n. EdgesLong n (mapEdge length (edgeColumns (d .es)))) (sym (d .m-is)) (edge-columns-long (d .es)))
 
-  entries-back : take (c .n) (held .entries) ≡ entries (keptAll (d .ns))
-  entries-back = node-back (λ x. x .entry) (zeros .entries) (held .entries) (d .so .entries-so) (room .entries-long)
+  held-is : heldGraph c held ≡ graphFrom (c .k) (keptAll (d .ns)) (d .es)
+  held-is = λ i. record { size = sizeOf (c .k) (sym n-kept i) (d .m-is i); nodes = nodes-are i; edges = edges-are i }
 
-  grants-back : take (c .n) (held .grants) ≡ grants (keptAll (d .ns))
-  grants-back = node-back (λ x. x .grants) (zeros .grants) (held .grants) (d .so .grants-so) (room .grants-long)
-
-  froms-back : take (c .m) (held .froms) ≡ froms (d .es)
-  froms-back = edge-back (λ x. x .from) (zeros .froms) (held .froms) (d .so .froms-so) (room .froms-long)
-
-  tos-back : take (c .m) (held .tos) ≡ tos (d .es)
-  tos-back = edge-back (λ x. x .to) (zeros .tos) (held .tos) (d .so .tos-so) (room .tos-long)
-
-  ways-back : take (c .m) (held .ways) ≡ ways (d .es)
-  ways-back = edge-back (λ x. x .way) (zeros .ways) (held .ways) (d .so .ways-so) (room .ways-long)
-
-  held-is : heldGraph (c .k) (c .n) (c .m) held ≡ graphFrom (c .k) (keptAll (d .ns)) (d .es)
-  held-is = rw (kinds-back, checks-back, privileged-back, entries-back, grants-back, froms-back, tos-back, ways-back, d .n-is ∙ sym (length-map (d .ns) kept), d .m-is) refl
-
-  judged-text : {j : Judged} → Judges (heldGraph (c .k) (c .n) (c .m) held) j → judge (graphFrom (c .k) (d .ns) (d .es)) ≡ j
+  judged-text : {j : Judged} → Judges (heldGraph c held) j → judge (graphFrom (c .k) (d .ns) (d .es)) ≡ j
   judged-text {j} h = sym (judges-judge (graphFrom (c .k) (d .ns) (d .es)) (kept-judges (c .k) (d .ns) (d .es) (subst (λ (g : Graph). Judges g j) held-is h)))
 
-  means-so : {j : Judged} → Judges (heldGraph (c .k) (c .n) (c .m) held) j → onMeaning (textAt s from row) ≡ onJudged j (c .k) (d .ns) (d .es)
+  means-so : {j : Judged} → Judges (heldGraph c held) j → onMeaning (textAt s from row) ≡ onJudged j (c .k) (d .ns) (d .es)
   means-so {j} h = ap onMeaning (d .means) ∙ ap (λ (i : Judged). onJudged i (c .k) (d .ns) (d .es)) (judged-text h)
 
-  module _ {before after : Lent} (h : Judges (heldGraph (c .k) (c .n) (c .m) held) judged.Accepted) (p : Copied c held before after) where
+  module _ {before after : Lent} (h : Judges (heldGraph c held) judged.Accepted) (p : Copied c held before after) where
     same : keptAll (d .ns) ≡ d .ns
     same = kept-same (c .k) (d .ns) (d .es) (accepted-is (subst (λ (g : Graph). Judges g judged.Accepted) held-is h))
 
     copied-so : Stores before (d .ns) (d .es) after
-    copied-so = subst (λ l. Stores before l (d .es) after) same (record {
-      kinds-so = p .nodes .kinds-so ∙ ap (sets (before .kinds) 0) kinds-back;
-      checks-so = p .nodes .checks-so ∙ ap (sets (before .checks) 0) checks-back;
-      privileged-so = p .nodes .privileged-so ∙ ap (sets (before .privileged) 0) privileged-back;
-      entries-so = p .nodes .entries-so ∙ ap (sets (before .entries) 0) entries-back;
-      grants-so = p .nodes .grants-so ∙ ap (sets (before .grants) 0) grants-back;
-      froms-so = p .edges .froms-so ∙ ap (sets (before .froms) 0) froms-back;
-      tos-so = p .edges .tos-so ∙ ap (sets (before .tos) 0) tos-back;
-      ways-so = p .edges .ways-so ∙ ap (sets (before .ways) 0) ways-back;
-    })
+    copied-so =
+        subst (λ l. Stores before l (d .es) after) same
+        (record { nodes = subst (λ v. NodesWritten (before .nodes) v (after .nodes)) nodes-are (p .nodes); edges = subst (λ v. EdgesWritten (before .edges) v (after .edges)) edges-are (p .edges) })
 
   pub settles-tells : {before after : Lent} {r : Reading} → Settles c held before r after → Tells (onMeaning (textAt s from row)) before r after
   settles-tells {before} {after} (settled h p) =
@@ -145,27 +130,12 @@ wrong-tells s from row e = refuses (ap onMeaning e)
 
 -- ---- the slices' lengths and the text's
 
-room : {x : Lent} → NodesLong 1024 (length (x .kinds)) (length (x .checks)) (length (x .privileged)) (length (x .entries)) (length (x .grants))
-    → EdgesLong 4096 (length (x .froms)) (length (x .tos)) (length (x .ways)) → Room x
-room n e = record {
-  kinds-long = n .kinds-long;
-  checks-long = n .checks-long;
-  privileged-long = n .privileged-long;
-  entries-long = n .entries-long;
-  grants-long = n .grants-long;
-  froms-long = e .froms-long;
-  tos-long = e .tos-long;
-  ways-long = e .ways-long;
-}
-
 room? : (x : Lent) → Says (Room x) (roomy x)
 room? x =
     says-same
-    (and? (and? (eq? _ 1024) (and? (eq? _ 1024) (and? (eq? _ 1024) (and? (eq? _ 1024) (eq? _ 1024))))) (and? (eq? _ 4096) (and? (eq? _ 4096) (eq? _ 4096))))
-    (λ h. room
-    (record { kinds-long = h .0 .0; checks-long = h .0 .1 .0; privileged-long = h .0 .1 .1 .0; entries-long = h .0 .1 .1 .1 .0; grants-long = h .0 .1 .1 .1 .1 })
-    (record { froms-long = h .1 .0; tos-long = h .1 .1 .0; ways-long = h .1 .1 .1 }))
-    (λ r. ((r .kinds-long, (r .checks-long, (r .privileged-long, (r .entries-long, r .grants-long)))), (r .froms-long, (r .tos-long, r .ways-long))))
+    (and? (each-node? {f = λ l. eqb l 1024} (λ l. eq? l 1024) (mapNode length (x .nodes))) (each-edge? {f = λ l. eqb l 4096} (λ l. eq? l 4096) (mapEdge length (x .edges))))
+    (λ h. record { nodes = h .0; edges = h .1 })
+    (λ r. (r .nodes, r .edges))
 
 module _ (x : Lent) (s : List ℕ) where
   reading-short : (Room x → ⊥) → reading x s ≡ refused (1 at 0)
@@ -173,39 +143,73 @@ module _ (x : Lent) (s : List ℕ) where
   reading-short d = rw (false-says (room? x) d) refl
 
   module _ (r : Room x) where
-    reading-long : 65536 < length s → reading x s ≡ refused (12 at 0)
+    pub reading-roomy : reading x s ≡ outcome s
     unfolding reading
+    reading-roomy = rw (true-says (room? x) r) refl
+
+    reading-long : 65536 < length s → reading x s ≡ refused (12 at 0)
+    unfolding reading outcome
     reading-long h = rw (true-says (room? x) r, lt-ltb 65536 (length s) h) refl
 
     reading-sized : length s ≤ 65536 → reading x s ≡ onMeaning (textAt s 0 1)
-    unfolding reading
+    unfolding reading outcome
     reading-sized h = rw (true-says (room? x) r, le-ltb 65536 (length s) h) refl
 
-  pub sizes-short : SizesSo (length (x .kinds)) (length (x .checks)) (length (x .privileged)) (length (x .entries)) (length (x .grants)) (length (x .froms)) (length (x .tos)) (length (x .ways)) (length s) NoRoom
+  pub sizes-short : SizesSo (mapNode length (x .nodes)) (mapEdge length (x .edges)) (length s) NoRoom
       → reading x s ≡ refused (1 at 0)
-  sizes-short (cramped d) = reading-short (λ r. d (room-nodes r, room-edges r))
+  sizes-short (cramped d) = reading-short (λ r. d (r .nodes, r .edges))
 
-  pub sizes-long : SizesSo (length (x .kinds)) (length (x .checks)) (length (x .privileged)) (length (x .entries)) (length (x .grants)) (length (x .froms)) (length (x .tos)) (length (x .ways)) (length s) TooLong
+  pub sizes-long : SizesSo (mapNode length (x .nodes)) (mapEdge length (x .edges)) (length s) TooLong
       → reading x s ≡ refused (12 at 0)
-  sizes-long (long n e h) = reading-long (room n e) h
+  sizes-long (long n e h) = reading-long (record { nodes = n; edges = e }) h
 
-  pub sizes-fit : SizesSo (length (x .kinds)) (length (x .checks)) (length (x .privileged)) (length (x .entries)) (length (x .grants)) (length (x .froms)) (length (x .tos)) (length (x .ways)) (length s) Fit
+  pub sizes-fit : SizesSo (mapNode length (x .nodes)) (mapEdge length (x .edges)) (length s) Fit
       → Room x × (reading x s ≡ onMeaning (textAt s 0 1))
-  sizes-fit (fit n e h) = (room n e, reading-sized (room n e) h)
+  sizes-fit (fit n e h) = let r : Room x = record { nodes = n; edges = e } in (r, reading-sized r h)
 
 pub tells-by : {o p : Outcome} {before after : Lent} {r : Reading} → o ≡ p → Tells p before r after → Tells o before r after
 tells-by {before = before} {after = after} {r = r} e t = subst (λ (q : Outcome). Tells q before r after) (sym e) t
 
+-- ---- what the caller of the reader knows of a graph that was read
+
+judged-read : (j : Judged) (k l : ℕ) (ns ms : List Node) (es fs : List Edge) → Judges (graphFrom k ns es) j → onJudged j k ns es ≡ read l ms fs → Acceptable (graphFrom l ms fs)
+judged-read judged.Accepted k l ns ms es fs h e =
+    let u : k ≡ l = cc in
+    let v : ns ≡ ms = cc in
+    let w : es ≡ fs = cc in
+    subst (λ i. Acceptable (graphFrom i ms fs)) u (subst (λ x. Acceptable (graphFrom k x fs)) v (subst (λ x. Acceptable (graphFrom k ns x)) w (accepted-is h)))
+judged-read (judged.Refused r) k l ns ms es fs h e = let z : _≡_ {A = ℕ} 0 1 = cc in absurd (omega arith)
+
+meaning-read : (t : Meaning) (l : ℕ) (ms : List Node) (fs : List Edge) → onMeaning t ≡ read l ms fs → Acceptable (graphFrom l ms fs)
+meaning-read (wrong row) l ms fs e = let z : _≡_ {A = ℕ} 0 1 = cc in absurd (omega arith)
+meaning-read (says k ns es) l ms fs e = judged-read (judge (graphFrom k ns es)) k l ns ms es fs (judge-judges (graphFrom k ns es)) e
+
+never-read : (x : _) (k : ℕ) (ns : List Node) (es : List Edge) → refused x ≡ read k ns es → ⊥
+never-read x k ns es e = let z : _≡_ {A = ℕ} 0 1 = cc in omega arith
+
+-- it is accepted
+pub outcome-accepted : (s : List ℕ) {k : ℕ} {ns : List Node} {es : List Edge} → outcome s ≡ read k ns es → Acceptable (graphFrom k ns es)
+unfolding outcome
+outcome-accepted s {k} {ns} {es} e =
+    by-split (ltb 65536 (length s)) (λ t. absurd (never-read (12 at 0) k ns es (rw t at e))) (λ t. meaning-read (textAt s 0 1) k ns es (rw t at e))
+
+-- it stands in the first places of slices that have room
+module _ {before after : Lent} (k : ℕ) (ns : List Node) (es : List Edge) (r : Room before) (h : Stores before ns es after) where
+  pub stored-held : length ns ≤ 1024 → length es ≤ 4096 → heldGraph (sizeOf k (length ns) (length es)) after ≡ graphFrom k ns es
+  stored-held n m =
+      λ i. record { size = sizeOf k (length ns) (length es); nodes = nodes-back n (h .nodes) (r .nodes) (columns-long ns) i; edges = edges-back m (h .edges) (r .edges) (edge-columns-long es) i }
+
 -- ---- one answer and one content
 
-lent-one : {x y : Lent} → x .kinds ≡ y .kinds → x .checks ≡ y .checks → x .privileged ≡ y .privileged → x .entries ≡ y .entries → x .grants ≡ y .grants
-    → x .froms ≡ y .froms → x .tos ≡ y .tos → x .ways ≡ y .ways → x ≡ y
-lent-one a b c d e f g h = λ i. record { kinds = a i; checks = b i; privileged = c i; entries = d i; grants = e i; froms = f i; tos = g i; ways = h i }
+written-one : {x v y z : PerNode (List ℕ)} → NodesWritten x v y → NodesWritten x v z → y ≡ z
+written-one a b =
+    λ i. nodesOf ((a .kinds ∙ sym (b .kinds)) i) ((a .checks ∙ sym (b .checks)) i) ((a .privileged ∙ sym (b .privileged)) i) ((a .entries ∙ sym (b .entries)) i) ((a .grants ∙ sym (b .grants)) i)
+
+edges-written-one : {x v y z : PerEdge (List ℕ)} → EdgesWritten x v y → EdgesWritten x v z → y ≡ z
+edges-written-one a b = λ i. edgesOf ((a .froms ∙ sym (b .froms)) i) ((a .tos ∙ sym (b .tos)) i) ((a .ways ∙ sym (b .ways)) i)
 
 stores-one : {before x y : Lent} {ns : List Node} {es : List Edge} → Stores before ns es x → Stores before ns es y → x ≡ y
-stores-one a b =
-    lent-one (a .kinds-so ∙ sym (b .kinds-so)) (a .checks-so ∙ sym (b .checks-so)) (a .privileged-so ∙ sym (b .privileged-so)) (a .entries-so ∙ sym (b .entries-so)) (a .grants-so ∙ sym (b .grants-so))
-    (a .froms-so ∙ sym (b .froms-so)) (a .tos-so ∙ sym (b .tos-so)) (a .ways-so ∙ sym (b .ways-so))
+stores-one a b = λ i. record { nodes = written-one (a .nodes) (b .nodes) i; edges = edges-written-one (a .edges) (b .edges) i }
 
 pub reads-one : {o : Outcome} {before x y : Lent} {a b : Reading} → Tells o before a x → Tells o before b y → (a ≡ b) × (x ≡ y)
 reads-one {before = before} {x = x} {y = y} (stored {k = k} {ns = ns} {es = es} e h) (stored {k = l} {ns = ms} {es = fs} f i) = go (sym e ∙ f)

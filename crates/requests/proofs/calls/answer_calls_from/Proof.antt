@@ -5,11 +5,11 @@ use Rattle.requests.proofs.calls.answer_calls_from.Statement.{statement
 use Rattle.requests.proofs.calls.answer_calls_from.Tie as tie
 
 abbrev Inv-loop : tie.InvT-loop
-Inv-loop start numbers k n m kinds checks privileged entries grants froms tos ways denied₀ granted₀ stack₀ state₀ left₀ denied granted stack state left =
+Inv-loop start numbers size kinds checks privileged entries grants froms tos ways denied₀ granted₀ stack₀ state₀ left₀ denied granted stack state left =
     (length denied ≡ length denied₀) × (length granted ≡ length granted₀) × (length stack ≡ length stack₀)
 
 abbrev μ-loop : tie.MeasureT-loop
-μ-loop start numbers k n m kinds checks privileged entries grants froms tos ways denied₀ granted₀ stack₀ state₀ left₀ denied granted stack state left =
+μ-loop start numbers size kinds checks privileged entries grants froms tos ways denied₀ granted₀ stack₀ state₀ left₀ denied granted stack state left =
     left
 
 loop-holds : tie.Need-loop-holds Inv-loop μ-loop

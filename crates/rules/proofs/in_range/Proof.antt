@@ -1,8 +1,8 @@
 use Rattle.truth.specs.Truth.Tests.{says-same, le?}
 use Rattle.truth.specs.Truth.{fails}
 use native.Mathlib.Omega.{arith}
-use Rattle.graph.proofs.in_range.Statement.{statement}
-use Rattle.graph.proofs.in_range.Tie as tie
+use Rattle.rules.proofs.in_range.Statement.{statement}
+use Rattle.rules.proofs.in_range.Tie as tie
 
 returns : tie.Need-returns
 returns c = fails (λ p. omega arith)

@@ -1,9 +1,9 @@
 use Rattle.graph.specs.Graph.{NoEntry}
 use Rattle.truth.specs.Truth.Tests.{Passed, passed-none, passed-more, passed-stop, passed-end}
 use borrow.Author.Needs.{needs}
 use Prim.Native.Nat.{_-_}
-use Rattle.graph.proofs.first_entry.Statement.{statement}
-use Rattle.graph.proofs.first_entry.Tie as tie
+use Rattle.judge.proofs.first_entry.Statement.{statement}
+use Rattle.judge.proofs.first_entry.Tie as tie
 
 abbrev Inv-loop : tie.InvT-loop
 Inv-loop n entries i₀ i = Passed (NoEntry entries) n i

@@ -1,6 +1,6 @@
 use Rattle.truth.specs.Truth.Tests.{says-same, lt?, eq?}
-use Rattle.graph.proofs.check_obeys.Statement.{statement}
-use Rattle.graph.proofs.check_obeys.Tie as tie
+use Rattle.rules.proofs.check_obeys.Statement.{statement}
+use Rattle.rules.proofs.check_obeys.Tie as tie
 
 returns : tie.Need-returns
 returns c = says-same (lt? _ _) (λ l. ((λ _. l), λ d. absurd (d (c .if1 .taken)))) (λ x. x .0 (c .if1 .taken))

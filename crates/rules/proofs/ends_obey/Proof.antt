@@ -2,8 +2,8 @@ use mathlib.Core.Logic.{⊎-elim, inl, inr}
 use Rattle.truth.specs.Truth.Tests.{says-same, eq?}
 use Rattle.truth.specs.Truth.{fails}
 use native.Mathlib.Omega.{arith}
-use Rattle.graph.proofs.ends_obey.Statement.{statement}
-use Rattle.graph.proofs.ends_obey.Tie as tie
+use Rattle.rules.proofs.ends_obey.Statement.{statement}
+use Rattle.rules.proofs.ends_obey.Tie as tie
 
 returns : tie.Need-returns
 returns c = says-same (eq? _ _) (λ e. record { way-known = omega arith; call-leaves = λ _. e; transfer-leaves = λ z. absurd (omega arith); transfer-grants = λ z. absurd (omega arith) }) (λ r. r .call-leaves (c .if1 .taken))

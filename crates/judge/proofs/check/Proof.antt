@@ -1,10 +1,10 @@
 use Rattle.graph.specs.Judge.Laws.{edge-given, accepted-given, entry-given}
 use Rattle.graph.specs.Judge.{shape, node, refused}
 use Rattle.truth.specs.Truth.Tests.{says-true, says-false}
 use borrow.Author.Tests.{not-true, not-false}
 use borrow.Author.Needs.{needs}
-use Rattle.graph.proofs.check.Statement.{statement}
-use Rattle.graph.proofs.check.Tie as tie
+use Rattle.judge.proofs.check.Statement.{statement}
+use Rattle.judge.proofs.check.Tie as tie
 
 has-shape-requires : tie.Need-has-shape-requires
 has-shape-requires c κs = search needs

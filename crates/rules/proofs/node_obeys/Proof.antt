@@ -1,11 +1,11 @@
-use Rattle.graph.proofs.Laws.{within-says}
+use Rattle.rules.proofs.Laws.{within-says}
 use Rattle.truth.specs.Truth.Tests.{says-same, says-true, says-false}
 use Rattle.truth.specs.Truth.{fails}
 use borrow.Author.Tests.{not-true, not-false}
 use native.Mathlib.Omega.{arith}
 use borrow.Author.Needs.{needs}
-use Rattle.graph.proofs.node_obeys.Statement.{statement}
-use Rattle.graph.proofs.node_obeys.Tie as tie
+use Rattle.rules.proofs.node_obeys.Statement.{statement}
+use Rattle.rules.proofs.node_obeys.Tie as tie
 
 returns : tie.Need-returns
 returns c = fails (λ r. omega (arith, r .kind-known))

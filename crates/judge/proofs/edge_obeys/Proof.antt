@@ -2,8 +2,8 @@ use Rattle.truth.specs.Truth.Tests.{says-same}
 use Rattle.truth.specs.Truth.{fails}
 use native.Mathlib.Omega.{arith}
 use borrow.Author.Needs.{needs}
-use Rattle.graph.proofs.edge_obeys.Statement.{statement}
-use Rattle.graph.proofs.edge_obeys.Tie as tie
+use Rattle.judge.proofs.edge_obeys.Statement.{statement}
+use Rattle.judge.proofs.edge_obeys.Tie as tie
 
 mul-from : tie.Need-mul-from
 mul-from c = search needs

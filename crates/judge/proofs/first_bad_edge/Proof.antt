@@ -1,10 +1,10 @@
 use Rattle.graph.specs.Graph.{edgesOf, EdgeAt}
 use Rattle.truth.specs.Truth.Tests.{says-true, says-false, Passed, passed-none, passed-more, passed-stop, passed-end}
 use borrow.Author.Tests.{not-true, not-false}
 use borrow.Author.Needs.{needs}
 use Prim.Native.Nat.{_-_}
-use Rattle.graph.proofs.first_bad_edge.Statement.{statement}
-use Rattle.graph.proofs.first_bad_edge.Tie as tie
+use Rattle.judge.proofs.first_bad_edge.Statement.{statement}
+use Rattle.judge.proofs.first_bad_edge.Tie as tie
 
 abbrev Inv-loop : tie.InvT-loop
 Inv-loop n m kinds grants froms tos ways e₀ e = Passed (EdgeAt n kinds grants (edgesOf froms tos ways)) m e

@@ -2,8 +2,8 @@ use Rattle.truth.specs.Truth.Tests.{says-same, says-true, says-false}
 use Rattle.truth.specs.Truth.{fails}
 use borrow.Author.Tests.{not-true, not-false}
 use borrow.Author.Needs.{needs}
-use Rattle.graph.proofs.has_shape.Statement.{statement}
-use Rattle.graph.proofs.has_shape.Tie as tie
+use Rattle.rules.proofs.has_shape.Statement.{statement}
+use Rattle.rules.proofs.has_shape.Tie as tie
 
 in-range-requires : tie.Need-in-range-requires
 in-range-requires c κs = search needs

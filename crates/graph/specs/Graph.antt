@@ -93,37 +93,40 @@ nodeAt x i = mapNode (λ l. getD l i 0) x
 abbrev pub edgeAt : PerEdge (List ℕ) → ℕ → PerEdge ℕ
 edgeAt x i = mapEdge (λ l. getD l i 0) x
 
--- Node n: its kind (0 call, 1 return, 2 check), its check permission, its marks, and whether it grants permission p.
-pub kind : Graph → ℕ → ℕ
+-- Node n: its kind (0 call, 1 return, 2 check), its check permission, its entry mark, and whether it grants permission p.
+abbrev pub kind : Graph → ℕ → ℕ
 kind g n = getD (g .nodes .kinds) n 0
 
-pub isCheck : Graph → ℕ → Bool
+abbrev pub isCheck : Graph → ℕ → Bool
 isCheck g n = eqb (kind g n) 2
 
-pub check : Graph → ℕ → ℕ
+abbrev pub check : Graph → ℕ → ℕ
 check g n = getD (g .nodes .checks) n 0
 
--- n is privileged for p: in this edition for every p, where n has the mark
-pub privileged : Graph → ℕ → ℕ → Bool
-privileged g n p = eqb (getD (g .nodes .privileged) n 0) 1
-
-pub entry : Graph → ℕ → Bool
+abbrev pub entry : Graph → ℕ → Bool
 entry g n = eqb (getD (g .nodes .entries) n 0) 1
 
-pub grants : Graph → ℕ → ℕ → Bool
+abbrev pub grants : Graph → ℕ → ℕ → Bool
 grants g n p = has (getD (g .nodes .grants) n 0) p
 
+-- A node with this mark is privileged for p: in this edition for every p, where the mark is there.
+pub privilegedBy : (mark p : ℕ) → Bool
+privilegedBy mark p = eqb mark 1
+
+abbrev pub privileged : Graph → ℕ → ℕ → Bool
+privileged g n p = privilegedBy (getD (g .nodes .privileged) n 0) p
+
 -- Edge e: its from node, its to node, its kind (0 call, 1 transfer).
-pub from : Graph → ℕ → ℕ
+abbrev pub from : Graph → ℕ → ℕ
 from g e = getD (g .edges .froms) e 0
 
-pub to : Graph → ℕ → ℕ
+abbrev pub to : Graph → ℕ → ℕ
 to g e = getD (g .edges .tos) e 0
 
-pub way : Graph → ℕ → ℕ
+abbrev pub way : Graph → ℕ → ℕ
 way g e = getD (g .edges .ways) e 0
 
-pub isCall : Graph → ℕ → Bool
+abbrev pub isCall : Graph → ℕ → Bool
 isCall g e = eqb (way g e) 0
 
 -- ---- The rules

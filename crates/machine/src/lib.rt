@@ -131,7 +131,7 @@ pub fn full(
 {
     let k = size.k;
     let n = size.n;
-    let judged = graph::check(
+    let judged = judge::check(
         size,
         kinds,
         checks,
@@ -178,7 +178,7 @@ pub fn quick(
     if !solver::sets_long(n, denied.len(), granted.len()) {
         return Inspection::Refused(Refusal::Shape);
     }
-    let judged = graph::check(
+    let judged = judge::check(
         size,
         kinds,
         checks,
@@ -354,7 +354,7 @@ pub fn step(
     ensures { λ r. ⌜ Steps (graphOf size (now (kinds .entry)) (now (checks .entry)) (now (privileged .entry)) (now (entries .entry)) (now (grants .entry)) (now (froms .entry)) (now (tos .entry)) (now (ways .entry))) (now (stack .entry)) height next r (now (stack .exit)) ⌝ }
 {
     let n = size.n;
-    let judged = graph::check(
+    let judged = judge::check(
         size,
         kinds,
         checks,

@@ -488,7 +488,7 @@ pub fn solve(
     ) {
         return Judged::Refused(Refusal::Shape);
     }
-    let judged = graph::check(
+    let judged = judge::check(
         size,
         kinds,
         checks,
@@ -609,7 +609,7 @@ pub fn verdict(
     if !sets_long(n, denied.len(), granted.len()) {
         return Ruling::Refused(Refusal::Shape);
     }
-    let judged = graph::check(
+    let judged = judge::check(
         size,
         kinds,
         checks,

@@ -288,7 +288,7 @@ fn judge(
 {
     let n = counts.n;
     let m = counts.m;
-    graph::check(
+    judge::check(
         counts,
         &ks[0..n],
         &cs[0..n],

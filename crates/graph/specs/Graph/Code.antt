@@ -5,48 +5,39 @@ use mathlib.Core.Bool.{true, false, not}
 use lib.Dec.{eqb}
 use lib.ListN.{getD}
 use Rattle.sets.specs.Sets.{has}
-use Rattle.graph.specs.Graph.{Graph, kind, isCheck, check, privileged, entry, grants, from, to, way, isCall, deniedSet, grantedSet, callSet, may, sure, Outs, verdictOf}
+use Rattle.graph.specs.Graph.{Graph, kind, isCheck, check, privilegedBy, privileged, entry, grants, from, to, way, isCall, deniedSet, grantedSet, callSet, may, sure, Outs, verdictOf}
 
 module _ (g : Graph) (n p : ℕ) where
   pub kind-code : kind g n ≡ getD (g .nodes .kinds) n 0
-  unfolding kind
   kind-code = refl
 
   pub isCheck-code : isCheck g n ≡ eqb (getD (g .nodes .kinds) n 0) 2
-  unfolding isCheck kind
   isCheck-code = refl
 
   pub check-code : check g n ≡ getD (g .nodes .checks) n 0
-  unfolding check
   check-code = refl
 
   pub privileged-code : privileged g n p ≡ eqb (getD (g .nodes .privileged) n 0) 1
-  unfolding privileged
+  unfolding privilegedBy
   privileged-code = refl
 
   pub entry-code : entry g n ≡ eqb (getD (g .nodes .entries) n 0) 1
-  unfolding entry
   entry-code = refl
 
   pub grants-code : grants g n p ≡ has (getD (g .nodes .grants) n 0) p
-  unfolding grants
   grants-code = refl
 
 module _ (g : Graph) (e : ℕ) where
   pub from-code : from g e ≡ getD (g .edges .froms) e 0
-  unfolding from
   from-code = refl
 
   pub to-code : to g e ≡ getD (g .edges .tos) e 0
-  unfolding to
   to-code = refl
 
   pub way-code : way g e ≡ getD (g .edges .ways) e 0
-  unfolding way
   way-code = refl
 
   pub isCall-code : isCall g e ≡ eqb (getD (g .edges .ways) e 0) 0
-  unfolding isCall way
   isCall-code = refl
 
 -- the verdict's number in each case

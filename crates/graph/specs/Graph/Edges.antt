@@ -85,11 +85,9 @@ module _ (g : Graph) (w x : Outs) (n p : ℕ) where
 
 module _ (g : Graph) (w : Outs) (y : System) (x : Outs) (e p : ℕ) where
   by-call : way g e ≡ 0 → isCall g e ≡ true
-  unfolding isCall
   by-call c = eq-eqb (way g e) 0 c
 
   by-transfer : way g e ≡ 1 → isCall g e ≡ false
-  unfolding isCall
   by-transfer c = ne-eqb (way g e) 0 (λ z. omega (arith, c, z))
 
   pub call-edge : way g e ≡ 0 → (outSet g w y x e p ≡ true) ↔ ((callSet g y x (from g e) p ≡ true) × (grants g (to g e) p ≡ true))

@@ -15,7 +15,7 @@ use graph::Size;
 use machine::Inspection;
 use machine::Stepped;
 use rows::Written;
-use solver::Ruling;
+use verdict::Ruling;
 
 fn check(
     size: Size,
@@ -121,7 +121,7 @@ fn verdict(
     denied: &[u64],
     granted: &[u64],
 ) {
-    let ruling = solver::verdict(
+    let ruling = verdict::verdict(
         size,
         kinds,
         checks,

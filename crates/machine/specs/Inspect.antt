@@ -1,6 +1,5 @@
 -- What `full` and `quick` promise. Definitions alone: that each promise leaves one answer is below.
 pub mod Laws
-pub mod Calls
 pub mod Impostors
 use Prim.Native.Nat.{ℕ, _<_, _≤_}
 use mathlib.Core.Path.{_≡_}
@@ -12,7 +11,7 @@ use Rattle.graph.specs.Graph.{Graph, Acceptable}
 use Rattle.graph.specs.Refusals.{Numbered, _at_, numbered}
 use Rattle.graph.specs.Judge.{Refuses}
 use Rattle.graph.specs.declared.Refusal.{Refusal}
-use Rattle.solver.specs.Solve.{SetsLong}
+use Rattle.verdict.specs.Verdict.{SetsLong}
 use Rattle.machine.specs.declared.Inspection.{Inspection}
 use Rattle.machine.specs.declared.Inspection.the-variants as answer
 use Rattle.machine.specs.Machine.{Inspected, stackOf, full, quick}

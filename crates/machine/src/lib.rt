@@ -175,7 +175,7 @@ pub fn quick(
 {
     let k = size.k;
     let n = size.n;
-    if !solver::sets_long(n, denied.len(), granted.len()) {
+    if !verdict::sets_long(n, denied.len(), granted.len()) {
         return Inspection::Refused(Refusal::Shape);
     }
     let judged = judge::check(

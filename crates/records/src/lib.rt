@@ -685,7 +685,7 @@ pub fn read_header(s: &[u8], at: usize) -> Header
         n: three.b,
         m: three.c,
     };
-    if !graph::in_range(counts) {
+    if !rules::in_range(counts) {
         return Header::Wrong;
     }
     Header::At { counts, next }

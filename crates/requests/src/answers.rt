@@ -15,7 +15,7 @@ use graph::Size;
 use machine::Inspection;
 use machine::Stepped;
 use rows::Written;
-use solver::Ruling;
+use verdict::Ruling;
 
 fn check(
     size: Size,
@@ -28,7 +28,7 @@ fn check(
     tos: &[u16],
     ways: &[u8],
 ) {
-    let judged = graph::check(
+    let judged = judge::check(
         size,
         kinds,
         checks,
@@ -121,7 +121,7 @@ fn verdict(
     denied: &[u64],
     granted: &[u64],
 ) {
-    let ruling = solver::verdict(
+    let ruling = verdict::verdict(
         size,
         kinds,
         checks,

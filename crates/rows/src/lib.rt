@@ -178,7 +178,7 @@ fn put_verdict(out: &mut [u8], at: usize, kind: u8, check: u16, denied: u64, gra
     let p = check as usize;
     let fails = Set { bits: denied }.has(p);
     let passes = Set { bits: granted }.has(p);
-    put_number(out, at, solver::judge_check(fails, passes).number())
+    put_number(out, at, verdict::judge_check(fails, passes).number())
 }
 
 fn put_row(

@@ -429,10 +429,10 @@ fn judge_sizes(
 ) -> Sizes
     ensures { λ r. ⌜ SizesSo (nodesOf kinds checks privileged entries grants) (edgesOf froms tos ways) text r ⌝ }
 {
-    if !graph::nodes_long(1024, kinds, checks, privileged, entries, grants) {
+    if !rules::nodes_long(1024, kinds, checks, privileged, entries, grants) {
         return Sizes::NoRoom;
     }
-    if !graph::edges_long(4096, froms, tos, ways) {
+    if !rules::edges_long(4096, froms, tos, ways) {
         return Sizes::NoRoom;
     }
     if 65536 < text {

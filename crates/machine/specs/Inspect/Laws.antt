@@ -12,7 +12,7 @@ use Rattle.machine.specs.declared.Inspection.{Inspection}
 use Rattle.machine.specs.declared.Inspection.the-variants as answer
 use Rattle.machine.specs.Machine.{Inspected}
 use Rattle.machine.specs.Inspect.{Says-so, passes, fails, Asks, AskRefuses, graph, asked, stack, FullAnswers, QuickAnswers}
-use Rattle.solver.specs.Solve.{SetsLong}
+use Rattle.verdict.specs.Verdict.{SetsLong}
 
 -- an answer that says so is fixed by what it says
 answer-of : Inspected → Inspection

@@ -1,24 +1,17 @@
 -- Solvers that the promise shuts out, at the worked gateway: one that always refuses, one that stores nothing or empty sets, one that
--- does a single pass and returns; and a constant "needed".
-use Prim.Native.Nat.{ℕ, zero, suc}
+-- does a single pass and returns.
+use Prim.Native.Nat.{ℕ}
 use mathlib.Core.Path.{_≡_, refl, sym, _∙_, ap}
 use mathlib.Core.List.{List, [], _∷_}
-use mathlib.Core.Bool.{true, false}
 use native.Mathlib.Omega.{arith}
 use lib.ListN.{getD}
-use Rattle.sets.specs.Sets.{has}
-use Rattle.sets.specs.Sets.Code.{has-code}
-use Rattle.graph.specs.Graph.{Graph, check, Slices, Content, verdictOf}
-use Rattle.graph.specs.Graph.Code.{check-code, verdict-code}
+use Rattle.graph.specs.Graph.{Slices}
 use Rattle.graph.specs.Graph.Gateway.{gateway, gatewaySlices, gateway-accepted, gateway-one, gateway-one-round}
 use Rattle.graph.specs.Graph.Rounds.{mayRounds}
-use Rattle.graph.specs.Refusals.{numbered}
 use Rattle.graph.specs.Judge.Laws.{refuses-not}
 use Rattle.graph.specs.declared.Refusal.{Refusal}
 use Rattle.graph.specs.declared.Judged.the-variants.{Accepted, Refused}
-use Rattle.solver.specs.declared.Finding.the-variants.{Needed}
-use Rattle.solver.specs.declared.Ruling.the-variants as ruling
-use Rattle.solver.specs.Solve.{slices, Long, Solves, refused, solved, SolveRefuses, results, graph, Rules, given}
+use Rattle.solver.specs.Solve.{slices, Long, Solves, refused, solved, SolveRefuses, results, graph}
 
 -- four slices of eight sets
 abbrev pub eight : ℕ → List ℕ
@@ -55,12 +48,4 @@ pub never-one-pass : (s : Slices) (denied granted sure : List ℕ) → Solves ga
 never-one-pass s denied granted sure h =
     let e : mayRounds gateway 1 ≡ gatewaySlices .mayOut = ap (λ (t : Slices). t .mayOut) (solved-so s _ h) in
     let a : _≡_ {A = ℕ} 0 3 = ap (λ (l : List ℕ). getD l 2 0) (sym gateway-one-round ∙ e) in
-    omega arith
-
--- the check at node 5 is not "needed" by the sets that are stored
-pub never-needed : Rules gateway (gatewaySlices .denied) (gatewaySlices .granted) 5 (ruling.Given Needed) → ⊥
-never-needed (given h) =
-    let e : 0 ≡ verdictOf (has 0 0) (has 3 0) = rw (check-code gateway 5 0) at (h .number) in
-    let f : 0 ≡ verdictOf false true = simp has-code at e in
-    let g : _≡_ {A = ℕ} 0 1 = f ∙ verdict-code .1 in
     omega arith

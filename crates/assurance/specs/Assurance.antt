@@ -1,4 +1,5 @@
--- Demand 3 for what the calls themselves return.
+-- What the calls return, taken together: after `solve` accepted a graph, `quick` by its sets returns on every reachable stack what `full`
+-- does, after no more frames, and what `verdict` says of a check holds on every reachable stack with the check on top.
 use Prim.Native.Nat.{ℕ, _<_, _≤_}
 use mathlib.Core.Path.{_≡_, refl, sym, _∙_}
 use mathlib.Core.List.{List, _∷_}
@@ -9,15 +10,16 @@ use Rattle.graph.specs.Graph.{Graph, check, Slices, Acceptable, Content}
 use Rattle.graph.specs.Refusals.{numbered-one}
 use Rattle.graph.specs.declared.Refusal.{Refusal}
 use Rattle.graph.specs.declared.Judged.the-variants.{Accepted}
-use Rattle.solver.specs.Solve.{Solves, solved, SetsLong, Rules, given}
-use Rattle.solver.specs.declared.Finding.the-variants.{AlwaysPasses, AlwaysFails, NeverReached}
-use Rattle.solver.specs.declared.Ruling.the-variants as ruling
+use Rattle.solver.specs.Solve.{Solves, solved}
+use Rattle.verdict.specs.Verdict.{SetsLong, Rules, given}
+use Rattle.verdict.specs.declared.Finding.the-variants.{AlwaysPasses, AlwaysFails, NeverReached}
+use Rattle.verdict.specs.declared.Ruling.the-variants as ruling
 use Rattle.machine.specs.declared.Inspection.{Inspection}
 use Rattle.machine.specs.declared.Inspection.the-variants as answer
 use Rattle.machine.specs.Machine.{Inspected, stackOf, Reachable, Agrees, full, quick}
 use Rattle.machine.specs.Machine.Demand3.{demand3, always-passes, always-fails, never-reached, verdict-at}
 use Rattle.machine.specs.Inspect.{Says-so, passes, fails, FullAnswers, QuickAnswers}
 use Rattle.machine.specs.Inspect.Laws.{refusal-one, refusal-not}
 
 -- What quick returns is what full returns, after no more frames.
 pub data Returns : (quick full : Inspection) → Type 0 where

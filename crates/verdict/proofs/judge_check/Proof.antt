@@ -1,7 +1,7 @@
 use mathlib.Core.Path.{sym}
 use Rattle.graph.specs.Graph.Code.{verdict-code}
-use Rattle.solver.proofs.judge_check.Statement.{statement}
-use Rattle.solver.proofs.judge_check.Tie as tie
+use Rattle.verdict.proofs.judge_check.Statement.{statement}
+use Rattle.verdict.proofs.judge_check.Tie as tie
 
 returns : tie.Need-returns
 returns c = rw (c .before .if1 .taken, c .if2 .taken) (sym (verdict-code .3))

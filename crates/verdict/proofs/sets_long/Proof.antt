@@ -1,8 +1,8 @@
 use Rattle.truth.specs.Truth.Tests.{says-same, eq?}
 use Rattle.truth.specs.Truth.{fails}
 use native.Mathlib.Omega.{arith}
-use Rattle.solver.proofs.sets_long.Statement.{statement}
-use Rattle.solver.proofs.sets_long.Tie as tie
+use Rattle.verdict.proofs.sets_long.Statement.{statement}
+use Rattle.verdict.proofs.sets_long.Tie as tie
 
 returns : tie.Need-returns
 returns c = fails (λ p. omega arith)

@@ -1,4 +1,4 @@
-use Rattle.solver.specs.Solve.{refused, given, sets, graph, asked, no-check}
+use Rattle.verdict.specs.Verdict.{refused, given, sets, graph, asked, no-check}
 use Rattle.graph.specs.Judge.Laws.{accepted-is, refused-is}
 use Rattle.graph.specs.Graph.Code.{isCheck-code, check-code}
 use Rattle.truth.specs.Truth.Tests.{says-true, says-false}
@@ -6,8 +6,8 @@ use borrow.Author.Tests.{eq-eqb, ne-eqb, not-true, not-false}
 use native.Mathlib.Omega.{arith}
 use mathlib.Core.Path.{_∙_}
 use borrow.Author.Needs.{needs}
-use Rattle.solver.proofs.verdict.Statement.{statement}
-use Rattle.solver.proofs.verdict.Tie as tie
+use Rattle.verdict.proofs.verdict.Statement.{statement}
+use Rattle.verdict.proofs.verdict.Tie as tie
 
 sets-long-requires : tie.Need-sets-long-requires
 sets-long-requires c κs = search needs

@@ -1,6 +1,6 @@
 use borrow.Author.Needs.{needs}
-use Rattle.solver.proofs.rule.Statement.{statement}
-use Rattle.solver.proofs.rule.Tie as tie
+use Rattle.verdict.proofs.rule.Statement.{statement}
+use Rattle.verdict.proofs.rule.Tie as tie
 
 mul-t8 : tie.Need-mul-t8
 mul-t8 c = search needs

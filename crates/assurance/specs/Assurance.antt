@@ -16,8 +16,8 @@ use Rattle.verdict.specs.declared.Finding.the-variants.{AlwaysPasses, AlwaysFai
 use Rattle.verdict.specs.declared.Ruling.the-variants as ruling
 use Rattle.machine.specs.declared.Inspection.{Inspection}
 use Rattle.machine.specs.declared.Inspection.the-variants as answer
-use Rattle.machine.specs.Machine.{Inspected, stackOf, Reachable, Agrees, full, quick}
-use Rattle.machine.specs.Machine.Demand3.{demand3, always-passes, always-fails, never-reached, verdict-at}
+use Rattle.stacks.specs.Machine.{rightsOf, Inspected, stackOf, Reachable, Agrees, full, quick}
+use Rattle.stacks.specs.Machine.Demand3.{demand3, always-passes, always-fails, never-reached, verdict-at}
 use Rattle.machine.specs.Inspect.{Says-so, passes, fails, FullAnswers, QuickAnswers}
 use Rattle.machine.specs.Inspect.Laws.{refusal-one, refusal-not}
 
@@ -56,10 +56,10 @@ module _ (g : Graph) {before x : Slices} (stored : Solves g before Accepted x) w
 
   -- What `verdict` returned of the check n, on every reachable stack with n on top, of any height.
   module _ {n : ℕ} {r : List ℕ} (h : Reachable g (n ∷ r)) where
-    pub told-always-passes : Rules g (x .denied) (x .granted) n (ruling.Given AlwaysPasses) → full g (check g n) (n ∷ r) .passes ≡ true
+    pub told-always-passes : Rules g (x .denied) (x .granted) n (ruling.Given AlwaysPasses) → full (rightsOf g) (check g n) (n ∷ r) .passes ≡ true
     told-always-passes (given v) = always-passes g (v .acceptable) x (content .1) h (v .at-check) (verdict-at g (v .acceptable) x (content .1) n ∙ sym (v .number))
 
-    pub told-always-fails : Rules g (x .denied) (x .granted) n (ruling.Given AlwaysFails) → full g (check g n) (n ∷ r) .passes ≡ false
+    pub told-always-fails : Rules g (x .denied) (x .granted) n (ruling.Given AlwaysFails) → full (rightsOf g) (check g n) (n ∷ r) .passes ≡ false
     told-always-fails (given v) = always-fails g (v .acceptable) x (content .1) h (v .at-check) (verdict-at g (v .acceptable) x (content .1) n ∙ sym (v .number))
 
     pub told-never-reached : Rules g (x .denied) (x .granted) n (ruling.Given NeverReached) → ⊥

@@ -201,6 +201,19 @@ pub record Acceptable (g : Graph) : Type 0 where
   pub edges : All (EdgeObeys g) (g .size .m)
   pub entered : (i : ℕ) × (i < g .size .n) × (getD (g .nodes .entries) i 0 ≡ 1)
 
+-- ---- Which edge leads where
+
+-- An edge of a kind leads from node a to node b: one of the first m edges in the lists x.
+pub record LeadsIn (m : ℕ) (x : PerEdge (List ℕ)) (kind a b : ℕ) : Type 0 where
+  pub number : ℕ
+  pub low : number < m
+  pub starts : getD (x .froms) number 0 ≡ a
+  pub ends : getD (x .tos) number 0 ≡ b
+  pub kindred : getD (x .ways) number 0 ≡ kind
+
+abbrev pub Leads : Graph → (kind a b : ℕ) → Type 0
+Leads g = LeadsIn (g .size .m) (g .edges)
+
 -- ---- The equations
 
 -- The two systems of document 01, figures 5 and 6 of document 001 with two departures from the print:
@@ -287,6 +300,13 @@ pub record LeastMay (g : Graph) (m : Outs) : Type 0 where
 pub record GreatestSure (g : Graph) (m s : Outs) : Type 0 where
   pub solves : SureSolution g m s
   pub greatest : (x : Outs) → SureSolution g m x → Within g x s
+
+-- Out sets that are sound: each MAY out holds at least what its equation gives, and lies within the grants of its to node; each SURE out
+-- lies within what its equation gives. Demand 3 asks no more of them.
+pub record Sound (g : Graph) (m s : Outs) : Type 0 where
+  pub may-enough : Within g (outSet g m may m) m
+  pub may-granted : Within g m (λ e p. grants g (to g e) p)
+  pub sure-backed : Within g s (outSet g m sure s)
 
 -- ---- What the sets say of a node
 

@@ -1,8 +1,8 @@
 -- The refusals of document 01: the number and the place that go with each.
-use Prim.Native.Nat.{ℕ, _-_}
-use mathlib.Core.Path.{_≡_, refl, sym, ap₂, _∙_}
-use mathlib.Core.List.{List, [], _∷_}
-use lib.ListN.{getD}
+use Prim.Native.Nat.{ℕ}
+use mathlib.Core.Path.{_≡_, refl, sym, _∙_}
+use mathlib.Core.Bool.{cond}
+use lib.Dec.{eqb}
 use Rattle.graph.specs.declared.Refusal.{Refusal}
 use Rattle.graph.specs.declared.Refusal.the-variants.{Shape, Node, Edge, NoEntry, Asked, Stack, NotACheck, NoRule, Denied, NoRoom, Row, TooLong}
 
@@ -32,8 +32,18 @@ numbered TooLong = 12 at 0
 -- The refusal with that number and place.
 abbrev pub refusal : Numbered → Refusal
 refusal r =
-    getD (Shape ∷ Node (r .place) ∷ Edge (r .place) ∷ NoEntry ∷ Asked ∷ Stack ∷ NotACheck ∷ NoRule ∷ Denied ∷ NoRoom ∷ Row (r .place) ∷ TooLong ∷ [])
-    (r .number - 1) Shape
+    cond (eqb (r .number) 2) (Node (r .place))
+    (cond (eqb (r .number) 3) (Edge (r .place))
+    (cond (eqb (r .number) 4) NoEntry
+    (cond (eqb (r .number) 5) Asked
+    (cond (eqb (r .number) 6) Stack
+    (cond (eqb (r .number) 7) NotACheck
+    (cond (eqb (r .number) 8) NoRule
+    (cond (eqb (r .number) 9) Denied
+    (cond (eqb (r .number) 10) NoRoom
+    (cond (eqb (r .number) 11) (Row (r .place))
+    (cond (eqb (r .number) 12) TooLong
+    Shape))))))))))
 
 pub refusal-numbered : (r : Refusal) → refusal (numbered r) ≡ r
 refusal-numbered Shape = refl

@@ -1,5 +1,6 @@
 -- What `full` and `quick` promise. Definitions alone: that each promise leaves one answer is below.
 pub mod Laws
+pub mod Looking
 pub mod Impostors
 use Prim.Native.Nat.{ℕ, _<_, _≤_}
 use mathlib.Core.Path.{_≡_}
@@ -14,7 +15,7 @@ use Rattle.graph.specs.declared.Refusal.{Refusal}
 use Rattle.verdict.specs.Verdict.{SetsLong}
 use Rattle.machine.specs.declared.Inspection.{Inspection}
 use Rattle.machine.specs.declared.Inspection.the-variants as answer
-use Rattle.machine.specs.Machine.{Inspected, stackOf, full, quick}
+use Rattle.stacks.specs.Machine.{rightsOf, Inspected, stackOf, full, quick}
 
 -- What an answer says: passes or fails, and how many frames were looked at.
 pub data Says-so : Inspection → Inspected → Type 0 where
@@ -44,7 +45,7 @@ pub data AskRefuses (g : Graph) (low : Type 0) (stack : List ℕ) (height : ℕ)
 
 pub data FullAnswers (g : Graph) (stack : List ℕ) (height p : ℕ) : Inspection → Type 0 where
   refused : {r : Refusal} → AskRefuses g (p < g .size .k) stack height (numbered r) → FullAnswers g stack height p (answer.Refused r)
-  looked : {a : Inspection} → Asks g (p < g .size .k) stack height → Says-so a (full g p (stackOf stack height)) → FullAnswers g stack height p a
+  looked : {a : Inspection} → Asks g (p < g .size .k) stack height → Says-so a (full (rightsOf g) p (stackOf stack height)) → FullAnswers g stack height p a
 
 -- Refusal 1 also for the denied and granted slices, which are taken as they are.
 pub data QuickAnswers (g : Graph) (denied granted stack : List ℕ) (height p : ℕ) : Inspection → Type 0 where

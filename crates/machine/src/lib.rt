@@ -1,4 +1,4 @@
-// The inspections of a stack.
+// The inspections of a stack, and its steps.
 use graph::Judged;
 use graph::Refusal;
 use graph::Size;
@@ -7,12 +7,14 @@ ghost use mathlib.Core.Path.{_≡_};
 ghost use Prim.Native.Nat.{_<_, _≤_};
 ghost use lib.ListN.{length};
 ghost use Rattle.truth.specs.Truth.{Says, First, All};
-ghost use Rattle.graph.specs.Graph.{graphOf};
-ghost use Rattle.machine.specs.Machine.{stackOf, quick};
-ghost use Rattle.machine.specs.Machine.Inspections.{fullBy};
+ghost use Rattle.graph.specs.Graph.{graphOf, edgesOf, EdgesLong};
+ghost use Rattle.stacks.specs.Machine.{stackOf, rights, full, quick};
 ghost use Rattle.machine.specs.Inspect.{Says-so, Frame, StackFits, FullAnswers, QuickAnswers};
-ghost use Rattle.machine.specs.Steps.{Steps};
-ghost use Rattle.machine.specs.Steps.Numbers.{Joins, JoinsAt, Linked, Placed, DeniedBy, Takes};
+ghost use Rattle.machine.specs.Steps.{Denied, Steps};
+ghost use Rattle.machine.specs.Steps.Parts.{Placed, Takes};
+
+// How many places a stack's slice may have.
+const MOST_FRAMES: usize = 1024;
 
 // Whether the permission passes, with how many frames were looked at, the deciding one included.
 pub enum Inspection {
@@ -51,7 +53,7 @@ fn first_bad_frame(n: usize, stack: &[u16], height: usize) -> usize
 fn stack_fits(n: usize, stack: &[u16], height: usize) -> bool
     ensures { λ r. ⌜ Says (StackFits n (now (stack .entry)) height) r ⌝ }
 {
-    if 1024 < stack.len() {
+    if MOST_FRAMES < stack.len() {
         return false;
     }
     if stack.len() < height {
@@ -73,7 +75,7 @@ fn look_full(
 ) -> Inspection
     requires { ⌜ (height ≤ length (now stack)) × (height ≤ 1024) × (length (now privileged) ≡ length (now grants)) ⌝ }
     requires { ⌜ All (Frame (length (now grants)) (now stack)) height ⌝ }
-    ensures { λ r. ⌜ Says-so r (fullBy (now (privileged .entry)) (now (grants .entry)) p (stackOf (now (stack .entry)) height)) ⌝ }
+    ensures { λ r. ⌜ Says-so r (full (rights (now (privileged .entry)) (now (grants .entry))) p (stackOf (now (stack .entry)) height)) ⌝ }
 {
     let mut h = height;
     while 0 < h {
@@ -82,7 +84,7 @@ fn look_full(
         if !own.has(p) {
             return Inspection::Fails(height - h + 1);
         }
-        if privileged[i] == 1 {
+        if rules::is_privileged(privileged[i], p) {
             return Inspection::Passes(height - h + 1);
         }
         h -= 1;
@@ -201,43 +203,9 @@ pub fn quick(
     look_quick(denied, granted, stack, height, p)
 }
 
-fn joins(from: u16, to: u16, way: u8, sort: u8, a: usize, b: usize) -> bool
-    ensures { λ r. ⌜ Says (Joins from to way sort a b) r ⌝ }
-{
-    if from as usize != a {
-        return false;
-    }
-    if to as usize != b {
-        return false;
-    }
-    way == sort
-}
-
-// The first edge that joins a to b, or how many edges there are.
-fn first_joining(froms: &[u16], tos: &[u16], ways: &[u8], sort: u8, a: usize, b: usize) -> usize
-    requires { ⌜ (length (now tos) ≡ length (now froms)) × (length (now ways) ≡ length (now froms)) ⌝ }
-    ensures { λ r. ⌜ First (λ i. JoinsAt (now (froms .entry)) (now (tos .entry)) (now (ways .entry)) sort a b i → ⊥) (length (now (froms .entry))) r ⌝ }
-{
-    let mut i = 0;
-    while i < froms.len() {
-        if joins(froms[i], tos[i], ways[i], sort, a, b) {
-            return i;
-        }
-        i += 1;
-    }
-    i
-}
-
-// Whether an edge joins a to b.
-fn leads(froms: &[u16], tos: &[u16], ways: &[u8], sort: u8, a: usize, b: usize) -> bool
-    requires { ⌜ (length (now tos) ≡ length (now froms)) × (length (now ways) ≡ length (now froms)) ⌝ }
-    ensures { λ r. ⌜ Says (Linked (now (froms .entry)) (now (tos .entry)) (now (ways .entry)) sort a b) r ⌝ }
-{
-    first_joining(froms, tos, ways, sort, a, b) < froms.len()
-}
-
 // Where a rule writes the next node, inspection set aside.
 fn find_place(
+    m: usize,
     kinds: &[u8],
     entries: &[u8],
     froms: &[u16],
@@ -247,38 +215,38 @@ fn find_place(
     height: usize,
     next: usize,
 ) -> Place
-    requires { ⌜ (length (now tos) ≡ length (now froms)) × (length (now ways) ≡ length (now froms)) × (next < length (now entries)) × (height ≤ length (now stack)) ⌝ }
+    requires { ⌜ EdgesLong m (edgesOf (length (now froms)) (length (now tos)) (length (now ways))) × (next < length (now entries)) × (height ≤ length (now stack)) ⌝ }
     requires { ⌜ All (Frame (length (now kinds)) (now stack)) height ⌝ }
-    ensures { λ r. ⌜ Placed (now (kinds .entry)) (now (entries .entry)) (now (froms .entry)) (now (tos .entry)) (now (ways .entry)) (now (stack .entry)) height next r ⌝ }
+    ensures { λ r. ⌜ Placed (now (kinds .entry)) (now (entries .entry)) m (edgesOf (now (froms .entry)) (now (tos .entry)) (now (ways .entry))) (now (stack .entry)) height next r ⌝ }
 {
     if height == 0 {
-        if entries[next] == 1 {
+        if entries[next] == graph::MARKED {
             return Place::At(0);
         }
         return Place::Nowhere;
     }
     let top = stack[height - 1] as usize;
     let kind = kinds[top];
-    if kind == 0 {
-        if leads(froms, tos, ways, graph::CALL, top, next) {
+    if kind == graph::KIND_CALL {
+        if edges::lead(m, froms, tos, ways, graph::CALL, top, next) {
             return Place::At(height);
         }
         return Place::Nowhere;
     }
-    if kind == 2 {
-        if leads(froms, tos, ways, graph::TRANSFER, top, next) {
+    if kind == graph::KIND_CHECK {
+        if edges::lead(m, froms, tos, ways, graph::TRANSFER, top, next) {
             return Place::At(height - 1);
         }
         return Place::Nowhere;
     }
-    if kind != 1 {
+    if kind != graph::KIND_RETURN {
         return Place::Nowhere;
     }
     if height < 2 {
         return Place::Nowhere;
     }
     let lower = stack[height - 2] as usize;
-    if leads(froms, tos, ways, graph::TRANSFER, lower, next) {
+    if edges::lead(m, froms, tos, ways, graph::TRANSFER, lower, next) {
         return Place::At(height - 2);
     }
     Place::Nowhere
@@ -295,13 +263,13 @@ fn top_denied(
 ) -> bool
     requires { ⌜ (height ≤ length (now stack)) × (height ≤ 1024) × (length (now privileged) ≡ length (now grants)) × (length (now kinds) ≡ length (now grants)) × (length (now checks) ≡ length (now grants)) ⌝ }
     requires { ⌜ All (Frame (length (now grants)) (now stack)) height ⌝ }
-    ensures { λ r. ⌜ Says (DeniedBy (now (kinds .entry)) (now (checks .entry)) (now (privileged .entry)) (now (grants .entry)) (now (stack .entry)) height) r ⌝ }
+    ensures { λ r. ⌜ Says (Denied (now (kinds .entry)) (now (checks .entry)) (rights (now (privileged .entry)) (now (grants .entry))) (now (stack .entry)) height) r ⌝ }
 {
     if height == 0 {
         return false;
     }
     let top = stack[height - 1] as usize;
-    if kinds[top] != 2 {
+    if kinds[top] != graph::KIND_CHECK {
         return false;
     }
     match look_full(privileged, grants, stack, height, checks[top] as usize) {
@@ -324,7 +292,7 @@ fn move_to(
 ) -> Stepped
     requires { ⌜ (height ≤ length (now stack)) × (height ≤ 1024) × (length (now privileged) ≡ length (now grants)) × (length (now kinds) ≡ length (now grants)) × (length (now checks) ≡ length (now grants)) × (next < 65536) × (place ≤ 1024) ⌝ }
     requires { ⌜ All (Frame (length (now grants)) (now stack)) height ⌝ }
-    ensures { λ r. ⌜ Takes (DeniedBy (now (kinds .entry)) (now (checks .entry)) (now (privileged .entry)) (now (grants .entry)) (now (stack .entry)) height) (now (stack .entry)) next place r (now (stack .exit)) ⌝ }
+    ensures { λ r. ⌜ Takes (Denied (now (kinds .entry)) (now (checks .entry)) (rights (now (privileged .entry)) (now (grants .entry))) (now (stack .entry)) height) (now (stack .entry)) next place r (now (stack .exit)) ⌝ }
 {
     if top_denied(kinds, checks, privileged, grants, stack, height) {
         return Stepped::Refused(Refusal::Denied);
@@ -354,6 +322,7 @@ pub fn step(
     ensures { λ r. ⌜ Steps (graphOf size (now (kinds .entry)) (now (checks .entry)) (now (privileged .entry)) (now (entries .entry)) (now (grants .entry)) (now (froms .entry)) (now (tos .entry)) (now (ways .entry))) (now (stack .entry)) height next r (now (stack .exit)) ⌝ }
 {
     let n = size.n;
+    let m = size.m;
     let judged = judge::check(
         size,
         kinds,
@@ -374,7 +343,7 @@ pub fn step(
     if !stack_fits(n, stack, height) {
         return Stepped::Refused(Refusal::Stack);
     }
-    match find_place(kinds, entries, froms, tos, ways, stack, height, next) {
+    match find_place(m, kinds, entries, froms, tos, ways, stack, height, next) {
         Place::Nowhere => Stepped::Refused(Refusal::NoRule),
         Place::At(place) => move_to(
             stack,

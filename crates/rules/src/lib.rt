@@ -4,7 +4,7 @@ use sets::Set;
 ghost use mathlib.Core.Path.{_≡_};
 ghost use Prim.Native.Nat.{_<_};
 ghost use Rattle.truth.specs.Truth.{Says};
-ghost use Rattle.graph.specs.Graph.{nodesOf, edgesOf, NodeRule, EndsRule, Ranges, NodesLong, EdgesLong, ShapeRule};
+ghost use Rattle.graph.specs.Graph.{privilegedBy, nodesOf, edgesOf, NodeRule, EndsRule, Ranges, NodesLong, EdgesLong, ShapeRule};
 
 fn check_obeys(k: usize, kind: u8, check: u16) -> bool
     ensures { λ r. ⌜ Says ((kind ≡ 2 → check < k) × ((kind ≡ 2 → ⊥) → check ≡ 0)) r ⌝ }
@@ -32,6 +32,13 @@ pub fn node_obeys(k: usize, kind: u8, check: u16, privileged: u8, entry: u8, gra
         return false;
     }
     Set { bits: grants }.within(Set::all(k))
+}
+
+// Whether a node with this mark is privileged for permission p.
+pub fn is_privileged(mark: u8, p: usize) -> bool
+    ensures { λ r. ⌜ r ≡ privilegedBy mark p ⌝ }
+{
+    mark == graph::MARKED
 }
 
 // Whether an edge of a kind may lead from a node of a kind to another, by the grants of the two.

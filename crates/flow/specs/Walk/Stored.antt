@@ -14,7 +14,7 @@ use Rattle.sets.specs.Sets.Order.{all-lt, without-lt}
 use Rattle.graph.specs.Graph.{Graph, privileged, grants, Acceptable, System, may, sure, Outs, inSet, callSet, deniedSet, grantedSet, Slices, held, Stored, Content}
 use Rattle.graph.specs.Graph.Rule.{callRule, call-by-rule}
 use Rattle.graph.specs.Graph.Rounds.{least-closed, greatest-backed}
-use Rattle.graph.specs.Graph.Code.{privileged-code, grants-code, denied-code, granted-code}
+use Rattle.graph.specs.Graph.Code.{privileged-node, grants-code, denied-code, granted-code}
 use Rattle.flow.specs.Walk.{callNum, calledBy, carried, Good, NodesStored}
 use Rattle.flow.specs.Walk.Settled.{Settled, may-settled, may-ins, sure-settled, sure-ins}
 use Rattle.flow.specs.Walk.Taken.{carried-lt}
@@ -30,7 +30,7 @@ module _ (g : Graph) (acc : Acceptable g) (s : List ℕ) where
   -- a node's call set, from its sum
   has-called : (n p : ℕ) → has (calledBy (g .nodes .privileged) (g .nodes .grants) s n) p ≡ callRule g n p (has (getD s n 0) p)
   unfolding callNum callRule
-  has-called n p = go (eqb (getD (g .nodes .privileged) n 0) 1) ∙ sym (rw (privileged-code g n p, grants-code g n p) refl)
+  has-called n p = go (eqb (getD (g .nodes .privileged) n 0) 1) ∙ sym (rw (privileged-node g n p, grants-code g n p) refl)
     where
       go : (b : Bool) → has (cond b (getD (g .nodes .grants) n 0) (getD s n 0)) p ≡ cond b (has (getD (g .nodes .grants) n 0) p) (has (getD s n 0) p)
       go true = refl

@@ -19,7 +19,7 @@ use Rattle.graph.specs.Graph.Arrivals.{Arrives, by-mark, by-edge, arriving-mark
 use Rattle.graph.specs.Graph.Edges.{in-may, in-sure, past-may, past-sure}
 use Rattle.graph.specs.Graph.Rules.{from-low, check-low}
 use Rattle.graph.specs.Graph.Rule.{callRule, transRule, outRule, out-by-rule, out-rule-mono}
-use Rattle.graph.specs.Graph.Code.{isCheck-code, check-code, privileged-code, entry-code, grants-code, from-code, to-code, isCall-code}
+use Rattle.graph.specs.Graph.Code.{isCheck-code, check-code, privileged-node, entry-code, grants-code, from-code, to-code, isCall-code}
 use Rattle.flow.specs.Walk.{start, merge, callNum, pastNum, transNum, edgeNum, judgedNum, startIns, startPast, pastBy, carried, fromOf, toOf, counts, into, Begun, Toward, Closed, PastBelow, Setting, Good}
 use Rattle.flow.specs.Walk.Order.{toward-refl, toward-trans, merge-left, merge-both, merge-lt, start-lt, start-first}
 
@@ -40,7 +40,7 @@ pub has-carried : (g : Graph) (y : System) (a s q : List ℕ) (e p : ℕ)
 unfolding outRule callRule transRule edgeNum callNum transNum
 has-carried g y a s q e p =
     go (eqb (getD (g .edges .ways) e 0) 0) (eqb (getD (g .nodes .privileged) n 0) 1) (eqb (getD (g .nodes .kinds) n 0) 2) (has (getD (g .nodes .grants) n 0) (getD (g .nodes .checks) n 0))
-    ∙ sym (rw (isCall-code g e, from-code g e, to-code g e) (rw (isCheck-code g n p, check-code g n p, privileged-code g n p, privileged-code g n (getD (g .nodes .checks) n 0), grants-code g n p, grants-code g n (getD (g .nodes .checks) n 0), grants-code g (getD (g .edges .tos) e 0) p) refl))
+    ∙ sym (rw (isCall-code g e, from-code g e, to-code g e) (rw (isCheck-code g n p, check-code g n p, privileged-node g n p, privileged-node g n (getD (g .nodes .checks) n 0), grants-code g n p, grants-code g n (getD (g .nodes .checks) n 0), grants-code g (getD (g .edges .tos) e 0) p) refl))
   where
     n : ℕ
     n = fromOf g e

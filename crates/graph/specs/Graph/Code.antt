@@ -17,9 +17,9 @@ module _ (g : Graph) (n p : ℕ) where
   pub check-code : check g n ≡ getD (g .nodes .checks) n 0
   check-code = refl
 
-  pub privileged-code : privileged g n p ≡ eqb (getD (g .nodes .privileged) n 0) 1
+  pub privileged-node : privileged g n p ≡ eqb (getD (g .nodes .privileged) n 0) 1
   unfolding privilegedBy
-  privileged-code = refl
+  privileged-node = refl
 
   pub entry-code : entry g n ≡ eqb (getD (g .nodes .entries) n 0) 1
   entry-code = refl
@@ -39,6 +39,11 @@ module _ (g : Graph) (e : ℕ) where
 
   pub isCall-code : isCall g e ≡ eqb (getD (g .edges .ways) e 0) 0
   isCall-code = refl
+
+-- a mark says whether a node is privileged
+pub privileged-code : (mark p : ℕ) → privilegedBy mark p ≡ eqb mark 1
+unfolding privilegedBy
+privileged-code mark p = refl
 
 -- the verdict's number in each case
 pub verdict-code : (verdictOf false false ≡ 0) × (verdictOf false true ≡ 1) × (verdictOf true false ≡ 2) × (verdictOf true true ≡ 3)

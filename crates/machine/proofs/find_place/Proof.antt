@@ -1,7 +1,8 @@
 use Prim.Native.Nat.{_-_}
 use native.Mathlib.Omega.{arith}
 use Rattle.machine.specs.Steps.Parts.{no-place}
-use Rattle.machine.specs.Steps.Numbers.{RuleBy, somewhere}
+use Rattle.machine.specs.Steps.{Rule}
+use Rattle.machine.specs.Steps.Parts.{somewhere}
 use Rattle.truth.specs.Truth.Tests.{says-true, says-false}
 use borrow.Author.Needs.{needs}
 use Rattle.machine.proofs.find_place.Statement.{statement}
@@ -11,7 +12,7 @@ shared-slice-read-if2 : tie.Need-shared-slice-read-if2
 shared-slice-read-if2 c = search needs
 
 returns : tie.Need-returns
-returns c = somewhere (RuleBy.enter (c .before .before .if1 .taken) (c .if2 .taken))
+returns c = somewhere (Rule.enter (c .before .before .if1 .taken) (c .if2 .taken))
 
 returns-2 : tie.Need-returns-2
 returns-2 c = no-place (λ _ t. c .if2 .left t) (λ h _ _. omega (arith, h)) (λ h _ _. omega (arith, h)) (λ h _ _. omega (arith, h))
@@ -31,26 +32,26 @@ cast-top c = omega (arith, c .shared-slice-known8 .given (c .before .before .bef
 shared-slice-read-kind : tie.Need-shared-slice-read-kind
 shared-slice-read-kind c = c .before .before .before .before .before .before .before .before .before .pre .1 (c .before .before .before .before .before .before .before .before .before .args .height - 1) (omega arith)
 
-leads-requires : tie.Need-leads-requires
-leads-requires c κs = search needs
+lead-requires : tie.Need-lead-requires
+lead-requires c κs = search needs
 
 returns-3 : tie.Need-returns-3
-returns-3 c = somewhere (RuleBy.call (omega arith) (c .before .before .if3 .taken) (says-true (c .before .leads .ensures) (c .if4 .taken)))
+returns-3 c = somewhere (Rule.call (omega arith) (c .before .before .if3 .taken) (says-true (c .before .lead .ensures) (c .if4 .taken)))
 
 returns-4 : tie.Need-returns-4
-returns-4 c = no-place (λ h _. omega (arith, h)) (λ _ _. says-false (c .before .leads .ensures) (c .if4 .left)) (λ _ k _. omega (arith, k, c .before .before .if3 .taken)) (λ _ k _. omega (arith, k, c .before .before .if3 .taken))
+returns-4 c = no-place (λ h _. omega (arith, h)) (λ _ _. says-false (c .before .lead .ensures) (c .if4 .left)) (λ _ k _. omega (arith, k, c .before .before .if3 .taken)) (λ _ k _. omega (arith, k, c .before .before .if3 .taken))
 
-leads-requires-2 : tie.Need-leads-requires-2
-leads-requires-2 c κs = search needs
+lead-requires-2 : tie.Need-lead-requires-2
+lead-requires-2 c κs = search needs
 
 sub-t24 : tie.Need-sub-t24
 sub-t24 c = search needs
 
 returns-5 : tie.Need-returns-5
-returns-5 c = somewhere (RuleBy.pass (omega arith) (c .before .before .if5 .taken) (says-true (c .before .leads2 .ensures) (c .if6 .taken)))
+returns-5 c = somewhere (Rule.pass (omega arith) (c .before .before .if5 .taken) (says-true (c .before .lead2 .ensures) (c .if6 .taken)))
 
 returns-6 : tie.Need-returns-6
-returns-6 c = no-place (λ h _. omega (arith, h)) (λ _ k _. omega (arith, k, c .before .before .if5 .taken)) (λ _ _. says-false (c .before .leads2 .ensures) (c .if6 .left)) (λ _ k _. omega (arith, k, c .before .before .if5 .taken))
+returns-6 c = no-place (λ h _. omega (arith, h)) (λ _ k _. omega (arith, k, c .before .before .if5 .taken)) (λ _ _. says-false (c .before .lead2 .ensures) (c .if6 .left)) (λ _ k _. omega (arith, k, c .before .before .if5 .taken))
 
 returns-7 : tie.Need-returns-7
 returns-7 c = no-place (λ h _. omega (arith, h)) (λ _ k _. c .before .before .if3 .left k) (λ _ k _. c .before .if5 .left k) (λ _ k _. c .if7 .taken k)
@@ -67,14 +68,14 @@ shared-slice-read-lower c = search needs
 cast-lower : tie.Need-cast-lower
 cast-lower c = omega (arith, c .shared-slice-known10 .given (c .before .before .before .before .before .before .before .before .before .before .before .before .before .before .args .height - 2))
 
-leads-requires-3 : tie.Need-leads-requires-3
-leads-requires-3 c κs = search needs
+lead-requires-3 : tie.Need-lead-requires-3
+lead-requires-3 c κs = search needs
 
 returns-9 : tie.Need-returns-9
-returns-9 c = somewhere (RuleBy.back (omega arith) (c .before .before .before .before .if7 .left) (says-true (c .before .leads3 .ensures) (c .if9 .taken)))
+returns-9 c = somewhere (Rule.back (omega arith) (c .before .before .before .before .if7 .left) (says-true (c .before .lead3 .ensures) (c .if9 .taken)))
 
 returns-10 : tie.Need-returns-10
-returns-10 c = no-place (λ h _. omega (arith, h)) (λ _ k _. c .before .before .before .before .before .before .if3 .left k) (λ _ k _. c .before .before .before .before .before .if5 .left k) (λ _ _. says-false (c .before .leads3 .ensures) (c .if9 .left))
+returns-10 c = no-place (λ h _. omega (arith, h)) (λ _ k _. c .before .before .before .before .before .before .if3 .left k) (λ _ k _. c .before .before .before .before .before .if5 .left k) (λ _ _. says-false (c .before .lead3 .ensures) (c .if9 .left))
 
 pub find-place-spec : {M : Type 1} → statement M
 find-place-spec =
@@ -88,10 +89,10 @@ find-place-spec =
     shared-slice-read-top
     cast-top
     shared-slice-read-kind
-    leads-requires
+    lead-requires
     returns-3
     returns-4
-    leads-requires-2
+    lead-requires-2
     sub-t24
     returns-5
     returns-6
@@ -100,6 +101,6 @@ find-place-spec =
     mul-lower
     shared-slice-read-lower
     cast-lower
-    leads-requires-3
+    lead-requires-3
     returns-9
     returns-10)

@@ -1,5 +1,4 @@
 use Rattle.machine.specs.Inspect.{FullAnswers, graph, asked, stack}
-use Rattle.machine.specs.Machine.Inspections.{full-by}
 use Rattle.graph.specs.Judge.Laws.{accepted-is, refused-is}
 use Rattle.truth.specs.Truth.Tests.{says-true, says-false}
 use borrow.Author.Tests.{not-true, not-false}
@@ -53,7 +52,7 @@ returns-4 c =
       below = omega arith;
       fits = says-true (c .before .before .stack-fits .ensures) (not-false _ (c .before .if2 .left));
     })
-    (rw (full-by _ _ _) (c .look-full .ensures))
+    (c .look-full .ensures)
 
 pub full-spec : {M : Type 1} → statement M
 full-spec =

@@ -5,13 +5,14 @@ use lib.ListN.{length, getD}
 use native.Mathlib.Omega.{arith}
 use borrow.Author.Needs.{needs}
 use borrow.Author.Tests.{not-true, not-false, eq-eqb, ne-eqb}
-use Rattle.machine.specs.Machine.Inspections.{fullBy, by-bottom, by-lacks, by-stops, by-below}
-use Rattle.machine.specs.Machine.Looking.{Looking, looking-start, looking-passes, looking-fails, looking-below, looking-end}
+use Rattle.stacks.specs.Machine.{rights, full}
+use Rattle.stacks.specs.Machine.Inspections.{full-bottom, full-lacks, full-stops, full-below}
+use Rattle.machine.specs.Inspect.Looking.{Looking, looking-start, looking-passes, looking-fails, looking-below, looking-end}
 use Rattle.machine.proofs.look_full.Statement.{statement}
 use Rattle.machine.proofs.look_full.Tie as tie
 
 abbrev Inv-loop : tie.InvT-loop
-Inv-loop privileged grants stack height p h₀ h = Looking (fullBy privileged grants p) stack height h
+Inv-loop privileged grants stack height p h₀ h = Looking (full (rights privileged grants) p) stack height h
 
 abbrev μ-loop : tie.MeasureT-loop
 μ-loop privileged grants stack height p h₀ h = h
@@ -61,7 +62,7 @@ add-t18 : tie.Need-add-t18 Inv-loop μ-loop
 add-t18 c = let i = c .before .before .before .before in omega (arith, start i .pre .0 .1)
 
 returns : tie.Need-returns Inv-loop μ-loop
-returns c = let i = c .before .before .before .before in looking-fails (i .before .loop .inv) (i .loop-test .taken) (by-lacks _ _ _ _ _ (sym (c .before .has .ensures) ∙ not-true _ (c .if1 .taken)))
+returns c = let i = c .before .before .before .before in looking-fails (i .before .loop .inv) (i .loop-test .taken) (full-lacks _ _ _ _ (sym (c .before .has .ensures) ∙ not-true _ (c .if1 .taken)))
 
 shared-slice-read-if2 : tie.Need-shared-slice-read-if2 Inv-loop μ-loop
 shared-slice-read-if2 c = let i = c .before .before .before .before .before in omega (arith, node i, start i .pre .0 .2)
@@ -73,7 +74,7 @@ add-t22 : tie.Need-add-t22 Inv-loop μ-loop
 add-t22 c = let i = c .before .before .before .before .before .before in omega (arith, start i .pre .0 .1)
 
 returns-2 : tie.Need-returns-2 Inv-loop μ-loop
-returns-2 c = let i = c .before .before .before .before .before .before in looking-passes (i .before .loop .inv) (i .loop-test .taken) (by-stops _ _ _ _ _ (sym (c .before .before .before .has .ensures) ∙ not-false _ (c .before .before .if1 .left)) (eq-eqb _ 1 (c .if2 .taken)))
+returns-2 c = let i = c .before .before .before .before .before .before in looking-passes (i .before .loop .inv) (i .loop-test .taken) (full-stops _ _ _ _ (sym (c .before .before .before .has .ensures) ∙ not-false _ (c .before .before .if1 .left)) (eq-eqb _ 1 (c .if2 .taken)))
 
 sub-h : tie.Need-sub-h Inv-loop μ-loop
 sub-h c = search needs
@@ -82,10 +83,10 @@ loop-less : tie.Need-loop-less Inv-loop μ-loop
 loop-less c = let i = c .before .before .before .before .before .before in omega (arith, i .loop-test .taken)
 
 loop-again : tie.Need-loop-again Inv-loop μ-loop
-loop-again c = let i = c .before .before .before .before .before .before in looking-below (i .before .loop .inv) (i .loop-test .taken) (by-below _ _ _ _ _ (sym (c .before .before .before .has .ensures) ∙ not-false _ (c .before .before .if1 .left)) (ne-eqb _ 1 (c .if2 .left)))
+loop-again c = let i = c .before .before .before .before .before .before in looking-below (i .before .loop .inv) (i .loop-test .taken) (full-below _ _ _ _ (sym (c .before .before .before .has .ensures) ∙ not-false _ (c .before .before .if1 .left)) (ne-eqb _ 1 (c .if2 .left)))
 
 returns-3 : tie.Need-returns-3 Inv-loop μ-loop
-returns-3 c = looking-end (c .before .loop .inv) (c .loop-test .left) (by-bottom _ _ _)
+returns-3 c = looking-end (c .before .loop .inv) (c .loop-test .left) (full-bottom _ _)
 
 pub look-full-spec : {M : Type 1} → statement M
 look-full-spec =

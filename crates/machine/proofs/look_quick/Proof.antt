@@ -4,9 +4,9 @@ use Prim.Native.Nat.{ℕ, _-_, _<_}
 use lib.ListN.{length, getD}
 use native.Mathlib.Omega.{arith}
 use borrow.Author.Needs.{needs}
-use Rattle.machine.specs.Machine.{quick}
-use Rattle.machine.specs.Machine.Inspections.{quick-bottom, quick-denies, quick-grants, quick-below}
-use Rattle.machine.specs.Machine.Looking.{Looking, looking-start, looking-passes, looking-fails, looking-below, looking-end}
+use Rattle.stacks.specs.Machine.{quick}
+use Rattle.stacks.specs.Machine.Inspections.{quick-bottom, quick-denies, quick-grants, quick-below}
+use Rattle.machine.specs.Inspect.Looking.{Looking, looking-start, looking-passes, looking-fails, looking-below, looking-end}
 use Rattle.machine.proofs.look_quick.Statement.{statement}
 use Rattle.machine.proofs.look_quick.Tie as tie
 

@@ -1,5 +1,5 @@
 use native.Mathlib.Omega.{arith}
-use Rattle.machine.specs.Steps.Numbers.{denies, lacks-room, moves}
+use Rattle.machine.specs.Steps.Parts.{denies, lacks-room, moves}
 use Rattle.truth.specs.Truth.Tests.{says-true, says-false}
 use borrow.Author.Needs.{needs}
 use Rattle.machine.proofs.move_to.Statement.{statement}

@@ -3,7 +3,7 @@ use native.Mathlib.Omega.{arith}
 use borrow.Author.Tests.{not-true, not-false}
 use Rattle.truth.specs.Truth.Tests.{says-true, says-false}
 use Rattle.graph.specs.Judge.Laws.{accepted-is, refused-is}
-use Rattle.machine.specs.Steps.Rules.{nowhere-refuses, takes-steps, place-low}
+use Rattle.machine.specs.Steps.Parts.{nowhere-refuses, takes-steps, place-low}
 use Rattle.machine.specs.Inspect.{graph, asked, stack}
 use Rattle.machine.specs.Steps.{Steps, StepRefuses}
 use borrow.Author.Needs.{needs}
@@ -63,7 +63,7 @@ returns-4 : tie.Need-returns-4
 returns-4 c =
     let a = accepted-is (rw (c .before .before .before .before .before .before .before .before .enum-told .given .1) at (c .before .before .before .before .before .before .before .before .before .before .check .ensures)) in
     let f = says-true (c .before .before .before .before .before .stack-fits .ensures) (not-false _ (c .before .before .before .before .if2 .left)) in
-    Steps.refused (nowhere-refuses _ a (record { acceptable = a; below = omega arith; fits = f }) (rw (c .enum-told2 .given .1) at (c .before .before .find-place .ensures)))
+    Steps.refused (nowhere-refuses _ (record { acceptable = a; below = omega arith; fits = f }) (rw (c .enum-told2 .given .1) at (c .before .before .find-place .ensures)))
 
 same-length-3 : tie.Need-same-length-3
 same-length-3 c = search needs
@@ -72,7 +72,7 @@ returns-5 : tie.Need-returns-5
 returns-5 c =
     let a = accepted-is (rw (c .before .before .before .before .before .before .before .before .before .before .before .before .before .enum-told .given .1) at (c .before .before .before .before .before .before .before .before .before .before .before .before .before .before .before .check .ensures)) in
     let f = says-true (c .before .before .before .before .before .before .before .before .before .before .stack-fits .ensures) (not-false _ (c .before .before .before .before .before .before .before .before .before .if2 .left)) in
-    takes-steps _ a (record { acceptable = a; below = omega arith; fits = f }) (rw (c .before .before .before .before .before .place .given .1) at (c .before .before .before .before .before .before .before .find-place .ensures)) (c .before .before .move-to .ensures)
+    takes-steps _ (record { acceptable = a; below = omega arith; fits = f }) (rw (c .before .before .before .before .before .place .given .1) at (c .before .before .before .before .before .before .before .find-place .ensures)) (c .before .before .move-to .ensures)
 
 pub step-spec : {M : Type 1} → statement M
 step-spec =

@@ -7,8 +7,8 @@ use native.Mathlib.Omega.{arith}
 use Rattle.graph.specs.Graph.{Slices, Content}
 use Rattle.graph.specs.Graph.Gateway.{gateway}
 use Rattle.machine.specs.declared.Inspection.the-variants as answer
-use Rattle.machine.specs.Machine.{Inspected, stackOf, full, quick}
-use Rattle.machine.specs.Machine.Gateway.{full-at-5, quick-at-5}
+use Rattle.stacks.specs.Machine.{rightsOf, Inspected, stackOf, full, quick}
+use Rattle.stacks.specs.Machine.Gateway.{full-at-5, quick-at-5}
 use Rattle.machine.specs.Inspect.{Says-so, passes, QuickAnswers}
 
 count : {n : ℕ} {y : Inspected} → Says-so (answer.Passes n) y → n ≡ y .looked
@@ -21,8 +21,8 @@ module _ {x : Slices} (c : Content gateway x) (stack : List ℕ) (height : ℕ) 
       count q ∙ ap (λ (s : List ℕ). quick (x .denied) (x .granted) 0 s .looked) e ∙ ap (λ (y : Inspected). y .looked) (quick-at-5 c)
 
   -- so not the full rule's
-  pub never-full-count : QuickAnswers gateway (x .denied) (x .granted) stack height 0 (answer.Passes (full gateway 0 (stackOf stack height) .looked)) → ⊥
+  pub never-full-count : QuickAnswers gateway (x .denied) (x .granted) stack height 0 (answer.Passes (full (rightsOf gateway) 0 (stackOf stack height) .looked)) → ⊥
   never-full-count q =
-      let a : full gateway 0 (stackOf stack height) .looked ≡ 2 = ap (λ (s : List ℕ). full gateway 0 s .looked) e ∙ ap (λ (y : Inspected). y .looked) full-at-5 in
+      let a : full (rightsOf gateway) 0 (stackOf stack height) .looked ≡ 2 = ap (λ (s : List ℕ). full (rightsOf gateway) 0 s .looked) e ∙ ap (λ (y : Inspected). y .looked) full-at-5 in
       let b = never-another-count q in
       omega (arith, a, b)

@@ -10,7 +10,7 @@ use Rattle.graph.specs.Judge.Laws.{refuses-one, refuses-not}
 use Rattle.graph.specs.declared.Refusal.{Refusal}
 use Rattle.machine.specs.declared.Inspection.{Inspection}
 use Rattle.machine.specs.declared.Inspection.the-variants as answer
-use Rattle.machine.specs.Machine.{Inspected}
+use Rattle.stacks.specs.Machine.{Inspected}
 use Rattle.machine.specs.Inspect.{Says-so, passes, fails, Asks, AskRefuses, graph, asked, stack, FullAnswers, QuickAnswers}
 use Rattle.verdict.specs.Verdict.{SetsLong}
 

@@ -5,27 +5,26 @@ use mathlib.Core.List.{List, [], _∷_}
 use mathlib.Core.Bool.{true, false}
 use lib.ListN.{length, getD, set}
 use native.Mathlib.Omega.{arith}
-use borrow.Author.Tests.{eqb-true}
+use borrow.Author.Tests.{eqb-true, eq-eqb}
 use Rattle.truth.specs.Truth.Bools.{by-split, clash}
-use Rattle.graph.specs.Graph.{Graph, kind, check, isCheck}
-use Rattle.graph.specs.Graph.Code.{kind-code, isCheck-code}
+use Rattle.graph.specs.Graph.{Graph, kind, check}
 use Rattle.machine.specs.declared.Stepped.the-variants as answer
-use Rattle.machine.specs.Machine.{stackOf, full, Step, Reachable}
-use Rattle.machine.specs.Machine.Slices.{bare, written, topped, topped-twice, height-of, has-top, its-top, its-rest}
+use Rattle.stacks.specs.Machine.{rightsOf, stackOf, full, Step, Reachable}
+use Rattle.stacks.specs.Machine.Slices.{bare, written, topped, topped-twice, height-of, has-top, its-top, its-rest}
 use Rattle.machine.specs.Inspect.{Asks}
-use Rattle.machine.specs.Steps.{top, Rule, Denied, Steps}
+use Rattle.machine.specs.Steps.{top, Rule, RuleOf, DeniedOf, Steps}
 
 step-by : {g : Graph} {a b c d : List ℕ} → a ≡ c → b ≡ d → Step g c d → Step g a b
 step-by p q s = rw (p, q) s
 
 module _ (g : Graph) (st : List ℕ) (height next : ℕ) where
-  passing : (Denied g st height → ⊥) → 0 < height → isCheck g (top st height) ≡ true → full g (check g (top st height)) (stackOf st height) .passes ≡ true
-  passing d l c = by-split (full g (check g (top st height)) (stackOf st height) .passes) (λ t. t) (λ f. absurd (d (record { framed = l; at-check = c; fails = f })))
+  passing : (DeniedOf g st height → ⊥) → 0 < height → kind g (top st height) ≡ 2 → full (rightsOf g) (check g (top st height)) (stackOf st height) .passes ≡ true
+  passing d l c = by-split (full (rightsOf g) (check g (top st height)) (stackOf st height) .passes) (λ t. t) (λ f. absurd (d (record { framed = l; at-check = c; fails = f })))
 
-  taken : {p : ℕ} → next < g .size .n → Rule g st height next p → (Denied g st height → ⊥) → p < length st → Step g (stackOf st height) (stackOf (set st p next) (p + 1))
-  taken {p} n (Rule.enter e t) d l = step-by (ap (stackOf st) e ∙ bare st) (written st next 0 l ∙ ap (λ r. next ∷ r) (bare st)) (Step.enter n t)
+  taken : {p : ℕ} → next < g .size .n → RuleOf g st height next p → (DeniedOf g st height → ⊥) → p < length st → Step g (stackOf st height) (stackOf (set st p next) (p + 1))
+  taken {p} n (Rule.enter e t) d l = step-by (ap (stackOf st) e ∙ bare st) (written st next 0 l ∙ ap (λ r. next ∷ r) (bare st)) (Step.enter n (eq-eqb _ 1 t))
   taken n (Rule.call h k j) d l = step-by (topped st height h) (written st next height l ∙ ap (λ r. next ∷ r) (topped st height h)) (Step.call k j)
-  taken n (Rule.pass h k j) d l = step-by (topped st height h) (written st next (height - 1) l) (Step.pass k (rw (topped st height h) at (passing d h k)) j)
+  taken n (Rule.pass h k j) d l = step-by (topped st height h) (written st next (height - 1) l) (Step.pass (eq-eqb _ 2 k) (rw (topped st height h) at (passing d h k)) j)
   taken n (Rule.back h k j) d l = step-by (topped-twice st height h) (written st next (height - 2) l) (Step.back k j)
 
   -- what the call returned and stored is a step
@@ -43,24 +42,24 @@ module _ (g : Graph) (st : List ℕ) (height : ℕ) where
   pub record Can (t : List ℕ) : Type 0 where
     pub next : ℕ
     pub place : ℕ
-    pub rule : Rule g st height next place
-    pub allowed : Denied g st height → ⊥
+    pub rule : RuleOf g st height next place
+    pub allowed : DeniedOf g st height → ⊥
     pub leaves : next ∷ stackOf st place ≡ t
 
-  no-check : {k : ℕ} → kind g (top st height) ≡ k → (k ≡ 2 → ⊥) → Denied g st height → ⊥
-  no-check e d c = d (sym e ∙ kind-code g (top st height) 0 ∙ eqb-true _ 2 (sym (isCheck-code g (top st height) 0) ∙ c .at-check))
+  no-check : {k : ℕ} → kind g (top st height) ≡ k → (k ≡ 2 → ⊥) → DeniedOf g st height → ⊥
+  no-check e d c = d (sym e ∙ c .at-check)
 
   can : {s t : List ℕ} → Step g s t → s ≡ stackOf st height → Can t
   can (Step.enter {n} l e) q =
       let z : (height ≡ 0) = sym (height-of st height) ∙ sym (ap length q) in
-      record { next = n; place = 0; rule = Rule.enter z e; allowed = λ d. omega (arith, z, d .framed); leaves = ap (λ r. n ∷ r) (bare st) }
+      record { next = n; place = 0; rule = Rule.enter z (eqb-true _ 1 e); allowed = λ d. omega (arith, z, d .framed); leaves = ap (λ r. n ∷ r) (bare st) }
   can (Step.call {n} {t} {r} k j) q =
       let i = its-top st height q in
       let k' = rw i at k in
       record { next = t; place = height; rule = Rule.call (has-top st height q) k' (rw i at j); allowed = no-check k' (λ e. omega (arith, e)); leaves = ap (λ x. t ∷ x) (sym q) }
   can (Step.pass {n} {t} {r} c f j) q =
       let i = its-top st height q in
-      let c' = rw i at c in
+      let c' = eqb-true _ 2 (rw i at c) in
       record {
         next = t;
         place = height - 1;

@@ -9,52 +9,44 @@ use native.Mathlib.Decide.{ℕ-discrete}
 use borrow.Author.Tests.{eqb-true, eqb-false, ne-eqb}
 use lib.ListN.{getD}
 use Rattle.truth.specs.Truth.Bools.{by-split, clash, both, left, right}
-use Rattle.graph.specs.Graph.{Graph, kind, isCheck, check, privileged, entry, grants, from, to, isCall, Acceptable, may, sure, Outs, Arrival, mark, edge, arriving, inSet, callSet, pastSet, outSet, Within}
+use Rattle.graph.specs.Graph.{Graph, kind, isCheck, check, privileged, entry, grants, from, to, isCall, Acceptable, may, sure, Outs, Arrival, mark, edge, arriving, inSet, callSet, pastSet, outSet, Leads, Sound}
 use Rattle.graph.specs.Graph.Arrivals.{Arrives, by-mark, by-edge, arriving-mark, arriving-edge}
 use Rattle.graph.specs.Graph.Edges.{in-may, in-sure, call-privileged, call-at-least, call-at-most, past-may, past-sure, PastSure, call-edge, transfer-plain, transfer-privileged, transfer-past}
 use Rattle.graph.specs.Graph.Rules.{transfer-same, to-low, from-low, check-low}
-use Rattle.graph.specs.Graph.Code.{kind-code, isCheck-code}
-use Rattle.machine.specs.Machine.{Inspected, full, Leads, Step, enter, call, pass, back, Reachable, empty, then}
-use Rattle.machine.specs.Machine.Inspections.{full-bottom, full-lacks, full-stops, full-below, full-grants}
-
--- Each MAY out holds at least what its equation gives, and lies within the grants of its to node; each SURE out lies within what its
--- equation gives.
-pub record Sound (g : Graph) (m s : Outs) : Type 0 where
-  pub may-enough : Within g (outSet g m may m) m
-  pub may-granted : Within g m (λ e p. grants g (to g e) p)
-  pub sure-backed : Within g s (outSet g m sure s)
+use Rattle.stacks.specs.Machine.{rightsOf, Inspected, full, Step, enter, call, pass, back, Reachable, empty, then}
+use Rattle.stacks.specs.Machine.Inspections.{full-bottom, full-lacks, full-stops, full-below, full-grants}
 
 -- what a frame n above the frames r came with: what passes on r, cut to its grants
 pub came : Graph → ℕ → List ℕ → ℕ → Bool
-came g n r p = full g p r .passes && grants g n p
+came g n r p = full (rightsOf g) p r .passes && grants g n p
 
 module _ (g : Graph) (n : ℕ) (r : List ℕ) (p : ℕ) where
-  came-both : full g p r .passes ≡ true → grants g n p ≡ true → came g n r p ≡ true
+  came-both : full (rightsOf g) p r .passes ≡ true → grants g n p ≡ true → came g n r p ≡ true
   unfolding came
   came-both a b = both a b
 
-  came-below : came g n r p ≡ true → full g p r .passes ≡ true
+  came-below : came g n r p ≡ true → full (rightsOf g) p r .passes ≡ true
   unfolding came
-  came-below t = left (full g p r .passes) (grants g n p) t
+  came-below t = left (full (rightsOf g) p r .passes) (grants g n p) t
 
   came-grants : came g n r p ≡ true → grants g n p ≡ true
   unfolding came
-  came-grants t = right (full g p r .passes) (grants g n p) t
+  came-grants t = right (full (rightsOf g) p r .passes) (grants g n p) t
 
-  came-passes : came g n r p ≡ true → full g p (n ∷ r) .passes ≡ true
+  came-passes : came g n r p ≡ true → full (rightsOf g) p (n ∷ r) .passes ≡ true
   came-passes t =
-      by-split (privileged g n p) (λ v. ap (λ (x : Inspected). x .passes) (full-stops g p n r (came-grants t) v))
-      (λ v. ap (λ (x : Inspected). x .passes) (full-below g p n r (came-grants t) v) ∙ came-below t)
+      by-split (privileged g n p) (λ v. ap (λ (x : Inspected). x .passes) (full-stops (rightsOf g) p n r (came-grants t) v))
+      (λ v. ap (λ (x : Inspected). x .passes) (full-below (rightsOf g) p n r (came-grants t) v) ∙ came-below t)
 
-  passes-came : privileged g n p ≡ false → full g p (n ∷ r) .passes ≡ true → came g n r p ≡ true
+  passes-came : privileged g n p ≡ false → full (rightsOf g) p (n ∷ r) .passes ≡ true → came g n r p ≡ true
   passes-came v t =
-      let a = full-grants g p n r t in
-      came-both (sym (ap (λ (x : Inspected). x .passes) (full-below g p n r a v)) ∙ t) a
+      let a = full-grants (rightsOf g) p n r t in
+      came-both (sym (ap (λ (x : Inspected). x .passes) (full-below (rightsOf g) p n r a v)) ∙ t) a
 
 -- frames that grant the same came with the same
 came-same : (g : Graph) (n t : ℕ) (r : List ℕ) (p : ℕ) → grants g n p ≡ grants g t p → came g n r p ≡ came g t r p
 unfolding came
-came-same g n t r p e = ap (λ (b : Bool). full g p r .passes && b) e
+came-same g n t r p e = ap (λ (b : Bool). full (rightsOf g) p r .passes && b) e
 
 pub record Arrived (g : Graph) (m s : Outs) (n : ℕ) (r : List ℕ) : Type 0 where
   pub by : Arrival
@@ -79,14 +71,14 @@ module _ (g : Graph) (m s : Outs) (n : ℕ) (r : List ℕ) (a : Arrived g m s n 
   in-came t = a .least p k (in-sure g s n p .0 t (a .by) (a .arrives))
 
   -- what passes on a frame is in MAY call of its node, and what is in SURE call passes
-  pub passes-call : full g p (n ∷ r) .passes ≡ true → callSet g may m n p ≡ true
+  pub passes-call : full (rightsOf g) p (n ∷ r) .passes ≡ true → callSet g may m n p ≡ true
   passes-call t =
-      let h = full-grants g p n r t in
+      let h = full-grants (rightsOf g) p n r t in
       by-split (privileged g n p) (λ v. call-privileged g may m n p v .1 h) (λ v. call-at-least g may m n p v (came-in (passes-came g n r p v t)) h)
 
-  pub call-passes : callSet g sure s n p ≡ true → full g p (n ∷ r) .passes ≡ true
+  pub call-passes : callSet g sure s n p ≡ true → full (rightsOf g) p (n ∷ r) .passes ≡ true
   call-passes t =
-      by-split (privileged g n p) (λ v. ap (λ (x : Inspected). x .passes) (full-stops g p n r (call-privileged g sure s n p v .0 t) v))
+      by-split (privileged g n p) (λ v. ap (λ (x : Inspected). x .passes) (full-stops (rightsOf g) p n r (call-privileged g sure s n p v .0 t) v))
       (λ v. came-passes g n r p (in-came (call-at-most g sure s n p v t)))
 
 -- ---- the steps keep it
@@ -107,7 +99,7 @@ module _ (g : Graph) (acc : Acceptable g) (m s : Outs) (sound : Sound g m s) whe
     by = mark;
     arrives = by-mark e;
     most = λ p k u. arriving-mark g m n p ∙ came-grants g n [] p u;
-    least = λ p k u. came-both g n [] p (ap (λ (x : Inspected). x .passes) (full-bottom g p)) (sym (arriving-mark g s n p) ∙ u);
+    least = λ p k u. came-both g n [] p (ap (λ (x : Inspected). x .passes) (full-bottom (rightsOf g) p)) (sym (arriving-mark g s n p) ∙ u);
   }
 
   module _ (n t : ℕ) (r : List ℕ) (a : Arrived g m s n r) where
@@ -131,7 +123,7 @@ module _ (g : Graph) (acc : Acceptable g) (m s : Outs) (sound : Sound g m s) whe
           (λ p k u. sym (same p) ∙ in-came g m s n r a p k (rw (d .starts) at (transfer-plain g m sure s (d .number) p (d .kindred) (rw (d .starts) c) .0 u)))
 
       -- a check that passes moves on
-      checked : n < g .size .n → isCheck g n ≡ true → full g (check g n) (n ∷ r) .passes ≡ true → Arrived g m s t r
+      checked : n < g .size .n → isCheck g n ≡ true → full (rightsOf g) (check g n) (n ∷ r) .passes ≡ true → Arrived g m s t r
       checked l c f = by-split (privileged g n q) by-privilege by-passing
         where
           q : ℕ
@@ -141,7 +133,7 @@ module _ (g : Graph) (acc : Acceptable g) (m s : Outs) (sound : Sound g m s) whe
           q-low = check-low g acc n l c
 
           h : grants g n q ≡ true
-          h = full-grants g q n r f
+          h = full-grants (rightsOf g) q n r f
 
           by-privilege : privileged g n q ≡ true → Arrived g m s t r
           by-privilege v =
@@ -169,7 +161,7 @@ module _ (g : Graph) (acc : Acceptable g) (m s : Outs) (sound : Sound g m s) whe
   lands b n t d = rw (d .ends) at (to-low g acc (d .number) (d .low))
 
   no-check : (n : ℕ) → kind g n ≡ 0 → isCheck g n ≡ false
-  no-check n z = isCheck-code g n 0 ∙ ne-eqb (getD (g .nodes .kinds) n 0) 2 (λ e. omega (arith, sym (kind-code g n 0) ∙ z))
+  no-check n z = ne-eqb (kind g n) 2 (λ e. omega (arith, e, z))
 
   stepped : {x y : List ℕ} → Step g x y → Framed g m s x → Framed g m s y
   stepped (enter {n} l e) bare = frame l (entered n e) tt bare

@@ -1,13 +1,13 @@
 -- An inspection of a slice, frame by frame from the top down: what the loops of `look_full` and `look_quick` keep, and their four ways on.
-use Prim.Native.Nat.{ℕ, zero, suc, _+_, _-_, _<_, _≤_}
+use Prim.Native.Nat.{ℕ, _+_, _-_, _<_, _≤_}
 use mathlib.Core.Path.{_≡_, refl, _∙_, ap}
 use mathlib.Core.List.{List, [], _∷_}
 use mathlib.Core.Bool.{Bool, true, false}
 use native.Mathlib.Omega.{arith}
-use native.Mathlib.Numerals.{unary-clauses}
 use lib.ListN.{getD}
 use Rattle.machine.specs.declared.Inspection.the-variants as answer
-use Rattle.machine.specs.Machine.{Inspected, decided, below, bottom, stackOf}
+use Rattle.stacks.specs.Machine.{Inspected, decided, below, bottom, stackOf}
+use Rattle.stacks.specs.Machine.Slices.{bare, topped}
 use Rattle.machine.specs.Inspect.{Says-so, passes, fails}
 
 -- the answer a of the frames below, k frames having been looked at before them
@@ -28,16 +28,6 @@ says-passes e = rw e passes
 says-fails : {n : ℕ} {a : Inspected} → a ≡ looked-at false n → Says-so (answer.Fails n) a
 says-fails e = rw e fails
 
--- the top frame of those left
-stack-top : (s : List ℕ) (h : ℕ) → 0 < h → stackOf s h ≡ getD s (h - 1) 0 ∷ stackOf s (h - 1)
-unfolding stackOf
-stack-top s zero l = absurd (omega (arith, l))
-stack-top s (suc h) l = simp unary-clauses refl
-
-stack-none : (s : List ℕ) → stackOf s 0 ≡ []
-unfolding stackOf
-stack-none s = refl
-
 pub looking-start : (look : List ℕ → Inspected) (s : List ℕ) (height : ℕ) → Looking look s height height
 looking-start look s height = record { left = omega arith; same = ap (looked-at (look (stackOf s height) .passes)) (omega arith) }
 
@@ -45,7 +35,7 @@ module _ {look : List ℕ → Inspected} {s : List ℕ} {height h : ℕ} (l : Lo
   module _ (some : 0 < h) where
     -- the top frame decides
     here : {b : Bool} → look (getD s (h - 1) 0 ∷ stackOf s (h - 1)) ≡ decided b → look (stackOf s height) ≡ looked-at b (height - h + 1)
-    here e = l .same ∙ ap (λ (x : List ℕ). further (height - h) (look x)) (stack-top s h some) ∙ ap (further (height - h)) e
+    here e = l .same ∙ ap (λ (x : List ℕ). further (height - h) (look x)) (topped s h some) ∙ ap (further (height - h)) e
 
     pub looking-passes : look (getD s (h - 1) 0 ∷ stackOf s (h - 1)) ≡ decided true → Says-so (answer.Passes (height - h + 1)) (look (stackOf s height))
     looking-passes e = says-passes (here e)
@@ -58,7 +48,7 @@ module _ {look : List ℕ → Inspected} {s : List ℕ} {height h : ℕ} (l : Lo
     looking-below e = record {
       left = omega (arith, l .left);
       same =
-          l .same ∙ ap (λ (x : List ℕ). further (height - h) (look x)) (stack-top s h some) ∙ ap (further (height - h)) e
+          l .same ∙ ap (λ (x : List ℕ). further (height - h) (look x)) (topped s h some) ∙ ap (further (height - h)) e
           ∙ ap (looked-at (look (stackOf s (h - 1)) .passes)) (omega (arith, l .left, some));
     }
 
@@ -67,6 +57,6 @@ module _ {look : List ℕ → Inspected} {s : List ℕ} {height h : ℕ} (l : Lo
   looking-end none e =
       let out : h ≡ 0 = omega (arith, none) in
       says-passes (
-      l .same ∙ ap (λ (x : ℕ). further (height - x) (look (stackOf s x))) out ∙ ap (λ (x : List ℕ). further (height - 0) (look x)) (stack-none s)
+      l .same ∙ ap (λ (x : ℕ). further (height - x) (look (stackOf s x))) out ∙ ap (λ (x : List ℕ). further (height - 0) (look x)) (bare s)
       ∙ ap (further (height - 0)) e ∙ ap (looked-at true) (omega arith)
       )

@@ -9,15 +9,15 @@ use lib.ListN.{getD}
 use borrow.Author.Tests.{not-true, not-false}
 use Rattle.truth.specs.Truth.Bools.{by-split, clash}
 use Rattle.sets.specs.Sets.{has}
-use Rattle.graph.specs.Graph.{Graph, isCheck, check, privileged, grants, to, Acceptable, may, sure, Outs, Arrival, arriving, inSet, callSet, LeastMay, GreatestSure, deniedSet, grantedSet, verdictOf, Slices, held, Content}
+use Rattle.graph.specs.Graph.{Graph, isCheck, check, privileged, grants, to, Acceptable, may, sure, Outs, Arrival, arriving, inSet, callSet, LeastMay, GreatestSure, deniedSet, grantedSet, verdictOf, Slices, held, Content, Sound}
 use Rattle.graph.specs.Graph.Arrivals.{Arrives, by-mark, by-edge, arriving-mark, arriving-edge}
 use Rattle.graph.specs.Graph.Edges.{in-may, call-privileged, call-at-most}
 use Rattle.graph.specs.Graph.Rounds.{least-granted}
 use Rattle.graph.specs.Graph.Rules.{check-low}
 use Rattle.graph.specs.Graph.Code.{denied-code, granted-code, verdict-code}
-use Rattle.machine.specs.Machine.{Inspected, decided, below, bottom, full, quick, Reachable, Agrees}
-use Rattle.machine.specs.Machine.Inspections.{full-bottom, full-below, full-looks, quick-bottom, quick-denies, quick-grants, quick-below}
-use Rattle.machine.specs.Machine.Frames.{Sound, Framed, bare, frame, passes-call, call-passes, framed}
+use Rattle.stacks.specs.Machine.{rightsOf, Inspected, decided, below, bottom, full, quick, Reachable, Agrees}
+use Rattle.stacks.specs.Machine.Inspections.{full-bottom, full-below, full-looks, quick-bottom, quick-denies, quick-grants, quick-below}
+use Rattle.stacks.specs.Machine.Frames.{Framed, bare, frame, passes-call, call-passes, framed}
 
 -- the least MAY and the greatest SURE solution have the three facts
 pub solved-sound : (g : Graph) → Acceptable g → (m s : Outs) → LeastMay g m → GreatestSure g m s → Sound g m s
@@ -60,30 +60,30 @@ module _ (g : Graph) (acc : Acceptable g) (m s : Outs) (sound : Sound g m s) (de
       (λ v. clash (is-granted n p l k ∙ call-privileged g sure s n p v .1 (call-privileged g may m n p v .0 c)) a)
       (λ v. (in-granted n p k (call-at-most g may m n p v c), v))
 
-  pub agrees : {x : List ℕ} → Framed g m s x → (p : ℕ) → p < g .size .k → Agrees (quick den gra p x) (full g p x)
-  agrees bare p k = agrees-by (quick-bottom den gra p) (full-bottom g p) refl (omega arith)
+  pub agrees : {x : List ℕ} → Framed g m s x → (p : ℕ) → p < g .size .k → Agrees (quick den gra p x) (full (rightsOf g) p x)
+  agrees bare p k = agrees-by (quick-bottom den gra p) (full-bottom (rightsOf g) p) refl (omega arith)
   agrees (frame {n} {r} l a w f) p k = go (agrees f p k)
     where
-      go : Agrees (quick den gra p r) (full g p r) → Agrees (quick den gra p (n ∷ r)) (full g p (n ∷ r))
+      go : Agrees (quick den gra p r) (full (rightsOf g) p r) → Agrees (quick den gra p (n ∷ r)) (full (rightsOf g) p (n ∷ r))
       go h =
           by-split (has (getD den n 0) p)
-          (λ d. agrees-by (quick-denies den gra p n r d) refl (sym (fails d)) (full-looks g p n r))
+          (λ d. agrees-by (quick-denies den gra p n r d) refl (sym (fails d)) (full-looks (rightsOf g) p n r))
           (λ d.
           by-split (has (getD gra n 0) p)
-          (λ t. agrees-by (quick-grants den gra p n r d t) refl (sym (call-passes g m s n r a p k (sym (is-granted n p l k) ∙ t))) (full-looks g p n r))
+          (λ t. agrees-by (quick-grants den gra p n r d t) refl (sym (call-passes g m s n r a p k (sym (is-granted n p l k) ∙ t))) (full-looks (rightsOf g) p n r))
           (λ t.
           let u = undecided n p l k d t in
-          agrees-by (quick-below den gra p n r d t) (full-below g p n r (u .0) (u .1)) (h .answer) (omega (arith, h .frames))))
+          agrees-by (quick-below den gra p n r d t) (full-below (rightsOf g) p n r (u .0) (u .1)) (h .answer) (omega (arith, h .frames))))
         where
-          fails : has (getD den n 0) p ≡ true → full g p (n ∷ r) .passes ≡ false
-          fails d = by-split (full g p (n ∷ r) .passes) (λ t. clash (passes-call g m s n r a p k t) (is-denied n p l k d)) (λ f. f)
+          fails : has (getD den n 0) p ≡ true → full (rightsOf g) p (n ∷ r) .passes ≡ false
+          fails d = by-split (full (rightsOf g) p (n ∷ r) .passes) (λ t. clash (passes-call g m s n r a p k t) (is-denied n p l k d)) (λ f. f)
 
   -- what the two sets of the top frame say of an inspection
-  pub granted-passes : {n : ℕ} {r : List ℕ} → Framed g m s (n ∷ r) → (p : ℕ) → p < g .size .k → has (getD gra n 0) p ≡ true → full g p (n ∷ r) .passes ≡ true
+  pub granted-passes : {n : ℕ} {r : List ℕ} → Framed g m s (n ∷ r) → (p : ℕ) → p < g .size .k → has (getD gra n 0) p ≡ true → full (rightsOf g) p (n ∷ r) .passes ≡ true
   granted-passes (frame {n} {r} l a w f) p k t = call-passes g m s n r a p k (sym (is-granted n p l k) ∙ t)
 
-  pub denied-fails : {n : ℕ} {r : List ℕ} → Framed g m s (n ∷ r) → (p : ℕ) → p < g .size .k → has (getD den n 0) p ≡ true → full g p (n ∷ r) .passes ≡ false
-  denied-fails (frame {n} {r} l a w f) p k t = by-split (full g p (n ∷ r) .passes) (λ u. clash (passes-call g m s n r a p k u) (is-denied n p l k t)) (λ u. u)
+  pub denied-fails : {n : ℕ} {r : List ℕ} → Framed g m s (n ∷ r) → (p : ℕ) → p < g .size .k → has (getD den n 0) p ≡ true → full (rightsOf g) p (n ∷ r) .passes ≡ false
+  denied-fails (frame {n} {r} l a w f) p k t = by-split (full (rightsOf g) p (n ∷ r) .passes) (λ u. clash (passes-call g m s n r a p k u) (is-denied n p l k t)) (λ u. u)
 
 -- ---- the verdict's numbers, turned round
 
@@ -119,7 +119,7 @@ module _ (g : Graph) (acc : Acceptable g) (x : Slices) (c : Content g x) where
   sound : Sound g (held (x .mayOut)) (held (x .sureOut))
   sound = solved-sound g acc (held (x .mayOut)) (held (x .sureOut)) (c .least) (c .greatest)
 
-  pub demand3 : {st : List ℕ} → Reachable g st → (p : ℕ) → p < g .size .k → Agrees (quick (x .denied) (x .granted) p st) (full g p st)
+  pub demand3 : {st : List ℕ} → Reachable g st → (p : ℕ) → p < g .size .k → Agrees (quick (x .denied) (x .granted) p st) (full (rightsOf g) p st)
   demand3 h = agrees g acc (held (x .mayOut)) (held (x .sureOut)) sound (x .denied) (x .granted) (c .denies) (c .grants) (framed g acc (held (x .mayOut)) (held (x .sureOut)) sound h)
 
   -- the verdict at the check n
@@ -141,17 +141,17 @@ module _ (g : Graph) (acc : Acceptable g) (x : Slices) (c : Content g x) where
         go : Framed g (held (x .mayOut)) (held (x .sureOut)) (n ∷ r) → check g n < g .size .k
         go (frame l a w f) = check-low g acc n l at
 
-    passes : has (getD (x .granted) n 0) (check g n) ≡ true → full g (check g n) (n ∷ r) .passes ≡ true
+    passes : has (getD (x .granted) n 0) (check g n) ≡ true → full (rightsOf g) (check g n) (n ∷ r) .passes ≡ true
     passes = granted-passes g acc (held (x .mayOut)) (held (x .sureOut)) sound (x .denied) (x .granted) (c .denies) (c .grants) stands (check g n) low
 
-    fails : has (getD (x .denied) n 0) (check g n) ≡ true → full g (check g n) (n ∷ r) .passes ≡ false
+    fails : has (getD (x .denied) n 0) (check g n) ≡ true → full (rightsOf g) (check g n) (n ∷ r) .passes ≡ false
     fails = denied-fails g acc (held (x .mayOut)) (held (x .sureOut)) sound (x .denied) (x .granted) (c .denies) (c .grants) stands (check g n) low
 
-    pub always-passes : verdictAt n ≡ 1 → full g (check g n) (n ∷ r) .passes ≡ true
+    pub always-passes : verdictAt n ≡ 1 → full (rightsOf g) (check g n) (n ∷ r) .passes ≡ true
     unfolding verdictAt
     always-passes v = passes (passes-means _ _ v)
 
-    pub always-fails : verdictAt n ≡ 2 → full g (check g n) (n ∷ r) .passes ≡ false
+    pub always-fails : verdictAt n ≡ 2 → full (rightsOf g) (check g n) (n ∷ r) .passes ≡ false
     unfolding verdictAt
     always-fails v = fails (fails-means _ _ v)
 

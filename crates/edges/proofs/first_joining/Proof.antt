@@ -1,17 +1,18 @@
+-- The loop passes over edges that do not lead there: so far none of them does.
 use Prim.Native.Nat.{_-_}
 use native.Mathlib.Omega.{arith}
-use lib.ListN.{length}
 use borrow.Author.Needs.{needs}
 use Rattle.truth.specs.Truth.Tests.{Passed, passed-none, passed-more, passed-stop, passed-end, says-true, says-false}
-use Rattle.machine.specs.Steps.Numbers.{JoinsAt}
-use Rattle.machine.proofs.first_joining.Statement.{statement}
-use Rattle.machine.proofs.first_joining.Tie as tie
+use Rattle.graph.specs.Graph.{edgesOf, edgeAt}
+use Rattle.edges.specs.Leading.Search.{Joins}
+use Rattle.edges.proofs.first_joining.Statement.{statement}
+use Rattle.edges.proofs.first_joining.Tie as tie
 
 abbrev Inv-loop : tie.InvT-loop
-Inv-loop froms tos ways call a b i₀ i = Passed (λ j. JoinsAt froms tos ways call a b j → ⊥) (length froms) i
+Inv-loop m froms tos ways kind a b i₀ i = Passed (λ j. Joins (edgeAt (edgesOf froms tos ways) j) kind a b → ⊥) m i
 
 abbrev μ-loop : tie.MeasureT-loop
-μ-loop froms tos ways call a b i₀ i = length froms - i
+μ-loop m froms tos ways kind a b i₀ i = m - i
 
 loop-holds : tie.Need-loop-holds Inv-loop μ-loop
 loop-holds c = passed-none
@@ -26,10 +27,10 @@ mul-joins-2 : tie.Need-mul-joins-2 Inv-loop μ-loop
 mul-joins-2 c = search needs
 
 shared-slice-read-joins-2 : tie.Need-shared-slice-read-joins-2 Inv-loop μ-loop
-shared-slice-read-joins-2 c = omega (arith, c .before .before .before .before .before .before .before .pre .0)
+shared-slice-read-joins-2 c = search needs
 
 shared-slice-read-joins-3 : tie.Need-shared-slice-read-joins-3 Inv-loop μ-loop
-shared-slice-read-joins-3 c = omega (arith, c .before .before .before .before .before .before .before .before .pre .1)
+shared-slice-read-joins-3 c = search needs
 
 joins-requires : tie.Need-joins-requires Inv-loop μ-loop
 joins-requires c κs = search needs

@@ -5,7 +5,7 @@ use mathlib.Core.List.{List, [], _∷_}
 use lib.ListN.{length, getD, set}
 use lib.Seq.{getD-set-same, getD-set-other}
 use native.Mathlib.Omega.{arith}
-use Rattle.machine.specs.Machine.{stackOf}
+use Rattle.stacks.specs.Machine.{stackOf}
 
 below-set : (st : List ℕ) (v p h : ℕ) → h ≤ p → stackOf (set st p v) h ≡ stackOf st h
 unfolding stackOf

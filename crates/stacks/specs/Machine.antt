@@ -1,7 +1,6 @@
 -- Stacks, the two inspections, the steps, and what can be reached: document 01, "Inspection and steps". Definitions alone: the laws and
 -- demand 3 are in the modules below. A stack is a list of node numbers here, top first, and may be of any height.
 pub mod Inspections
-pub mod Looking
 pub mod Slices
 pub mod Frames
 pub mod Demand3
@@ -12,7 +11,7 @@ use mathlib.Core.List.{List, [], _∷_}
 use mathlib.Core.Bool.{Bool, true, false, cond}
 use lib.ListN.{getD}
 use Rattle.sets.specs.Sets.{has}
-use Rattle.graph.specs.Graph.{Graph, kind, isCheck, check, privileged, entry, grants, from, to, way}
+use Rattle.graph.specs.Graph.{Graph, kind, isCheck, check, privilegedBy, entry, Leads}
 
 -- The stack that the lowest h places of a slice hold, bottom first there.
 pub stackOf : List ℕ → ℕ → List ℕ
@@ -36,12 +35,23 @@ below a = record { passes = a .passes; looked = suc (a .looked) }
 abbrev pub bottom : Inspected
 bottom = record { passes = true; looked = 0 }
 
+-- What full inspection looks at in a frame's node: its privileged mark, and its grants.
+pub record Rights : Type 0 where
+  pub marks : List ℕ
+  pub grants : List ℕ
+
+abbrev pub rights : (marks grants : List ℕ) → Rights
+rights marks grants = record { marks = marks; grants = grants }
+
+abbrev pub rightsOf : Graph → Rights
+rightsOf g = rights (g .nodes .privileged) (g .nodes .grants)
+
 -- Full inspection for p, from the top: a frame without p in its grants fails; a privileged frame with p passes; else go down.
-pub full : Graph → ℕ → List ℕ → Inspected
-full g p [] = bottom
-full g p (n ∷ r) =
-    let down = below (full g p r) in
-    cond (grants g n p) (cond (privileged g n p) (decided true) down) (decided false)
+pub full : Rights → ℕ → List ℕ → Inspected
+full x p [] = bottom
+full x p (n ∷ r) =
+    let down = below (full x p r) in
+    cond (has (getD (x .grants) n 0) p) (cond (privilegedBy (getD (x .marks) n 0) p) (decided true) down) (decided false)
 
 -- Quick inspection by the denied and granted sets: p in the frame's denied set fails; else p in its granted set passes; else go down.
 pub quick : (denied granted : List ℕ) → ℕ → List ℕ → Inspected
@@ -52,18 +62,10 @@ quick denied granted p (n ∷ r) =
 
 -- ---- The steps
 
--- An edge of a kind (0 call, 1 transfer) leads from node m to node n.
-pub record Leads (g : Graph) (sort m n : ℕ) : Type 0 where
-  pub number : ℕ
-  pub low : number < g .size .m
-  pub kindred : way g number ≡ sort
-  pub starts : from g number ≡ m
-  pub ends : to g number ≡ n
-
 pub data Step (g : Graph) : List ℕ → List ℕ → Type 0 where
   enter : {n : ℕ} → n < g .size .n → entry g n ≡ true → Step g [] (n ∷ [])
   call : {n t : ℕ} {r : List ℕ} → kind g n ≡ 0 → Leads g 0 n t → Step g (n ∷ r) (t ∷ n ∷ r)
-  pass : {n t : ℕ} {r : List ℕ} → isCheck g n ≡ true → full g (check g n) (n ∷ r) .passes ≡ true → Leads g 1 n t → Step g (n ∷ r) (t ∷ r)
+  pass : {n t : ℕ} {r : List ℕ} → isCheck g n ≡ true → full (rightsOf g) (check g n) (n ∷ r) .passes ≡ true → Leads g 1 n t → Step g (n ∷ r) (t ∷ r)
   back : {u n t : ℕ} {r : List ℕ} → kind g u ≡ 1 → Leads g 1 n t → Step g (u ∷ n ∷ r) (t ∷ r)
 
 -- A stack is reachable if such steps lead to it from the empty stack.

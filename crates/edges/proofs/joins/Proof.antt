@@ -1,8 +1,8 @@
 use Rattle.truth.specs.Truth.Tests.{eq?}
-use Rattle.machine.specs.Steps.Parts.{joins-says}
+use Rattle.edges.specs.Leading.Search.{joins-says}
 use Rattle.truth.specs.Truth.{fails}
-use Rattle.machine.proofs.joins.Statement.{statement}
-use Rattle.machine.proofs.joins.Tie as tie
+use Rattle.edges.proofs.joins.Statement.{statement}
+use Rattle.edges.proofs.joins.Tie as tie
 
 returns : tie.Need-returns
 returns c = fails (λ j. c .if1 .taken (j .starts))

@@ -10,10 +10,10 @@ use Rattle.truth.specs.Truth.Bools.{clash}
 use Rattle.sets.specs.Sets.{has}
 use Rattle.sets.specs.Sets.Code.{has-code}
 use Rattle.graph.specs.Graph.{Graph, isCheck, check, verdictOf, Slices, Content}
-use Rattle.graph.specs.Graph.Code.{kind-code, entry-code, from-code, to-code, way-code, isCheck-code, check-code, grants-code, privileged-code, verdict-code}
+use Rattle.graph.specs.Graph.Code.{privileged-code, verdict-code}
 use Rattle.graph.specs.Graph.Gateway.{gateway, gatewaySlices, gateway-accepted, gateway-content, gateway-one}
-use Rattle.machine.specs.Machine.{Inspected, full, quick, Step, Reachable}
-use Rattle.machine.specs.Machine.Demand3.{demand3}
+use Rattle.stacks.specs.Machine.{rightsOf, Inspected, full, quick, Step, Reachable}
+use Rattle.stacks.specs.Machine.Demand3.{demand3}
 
 -- A node, its two sets as numbers (permission 0 is 1, permission 1 is 2), and the verdict where it is a check.
 pub record Row : Type 0 where
@@ -37,7 +37,7 @@ row x n = record {
 }
 
 pub look : Slices → List ℕ → Look
-look x s = record { stack = s; by-full = full gateway 0 s; by-quick = quick (x .denied) (x .granted) 0 s }
+look x s = record { stack = s; by-full = full (rightsOf gateway) 0 s; by-quick = quick (x .denied) (x .granted) 0 s }
 
 abbrev pub passes-after : ℕ → Inspected
 passes-after n = record { passes = true; looked = n }
@@ -63,12 +63,6 @@ pub record Table (x : Slices) : Type 0 where
   pub run-to-1-4-5 : Reachable gateway (5 ∷ 4 ∷ 1 ∷ [])
   pub no-run-to-1-5 : Reachable gateway (5 ∷ 1 ∷ []) → ⊥
 
-is-check : (n : ℕ) → isCheck gateway n ≡ eqb (getD (gateway .nodes .kinds) n 0) 2
-is-check n = isCheck-code gateway n 0
-
-checks : (n : ℕ) → check gateway n ≡ getD (gateway .nodes .checks) n 0
-checks n = check-code gateway n 0
-
 needed : verdictOf false false ≡ 0
 needed = verdict-code .0
 
@@ -78,31 +72,31 @@ always-passes = verdict-code .1
 -- the stack on which the two differ: so no run reaches it
 differ : look gatewaySlices (5 ∷ 1 ∷ []) ≡ record { stack = 5 ∷ 1 ∷ []; by-full = fails-after 2; by-quick = passes-after 1 }
 unfolding look full quick
-differ = simp (grants-code, privileged-code, has-code)
+differ = simp (privileged-code, has-code)
 
 -- the stacks that a run reaches: an entry, and calls along an edge
 entered : (n : ℕ) → n < 8 → eqb (getD (gateway .nodes .entries) n 0) 1 ≡ true → Reachable gateway (n ∷ [])
-entered n l e = Reachable.then Reachable.empty (Step.enter l (entry-code gateway n 0 ∙ e))
+entered n l e = Reachable.then Reachable.empty (Step.enter l e)
 
 called : {n : ℕ} {r : List ℕ} (e : ℕ) → e < 8 → getD (gateway .edges .froms) e 0 ≡ n → getD (gateway .nodes .kinds) n 0 ≡ 0 → getD (gateway .edges .ways) e 0 ≡ 0 → Reachable gateway (n ∷ r)
     → Reachable gateway (getD (gateway .edges .tos) e 0 ∷ n ∷ r)
 called {n} e l f k w h =
-    Reachable.then h (Step.call (kind-code gateway n 0 ∙ k) (record { number = e; low = l; kindred = way-code gateway e ∙ w; starts = from-code gateway e ∙ f; ends = to-code gateway e }))
+    Reachable.then h (Step.call k (record { number = e; low = l; starts = f; ends = refl; kindred = w }))
 
 rows : Table gatewaySlices
 unfolding row look full quick
 rows = record {
-  row-0 = simp (is-check, has-code);
-  row-1 = simp (is-check, has-code);
-  row-2 = simp (is-check, checks, has-code, needed);
-  row-3 = simp (is-check, has-code);
-  row-4 = simp (is-check, has-code);
-  row-5 = simp (is-check, checks, has-code, always-passes);
-  row-6 = simp (is-check, has-code);
-  row-7 = simp (is-check, has-code);
-  stack-0-2 = simp (grants-code, privileged-code, has-code);
-  stack-1-2 = simp (grants-code, privileged-code, has-code);
-  stack-1-4-5 = simp (grants-code, privileged-code, has-code);
+  row-0 = refl;
+  row-1 = refl;
+  row-2 = simp (has-code, needed);
+  row-3 = refl;
+  row-4 = refl;
+  row-5 = simp (has-code, always-passes);
+  row-6 = refl;
+  row-7 = refl;
+  stack-0-2 = simp (privileged-code, has-code);
+  stack-1-2 = simp (privileged-code, has-code);
+  stack-1-4-5 = simp (privileged-code, has-code);
   stack-1-5 = differ;
   run-to-0-2 = called 0 (lit< tt) refl refl refl (entered 0 (lit< tt) refl);
   run-to-1-2 = called 1 (lit< tt) refl refl refl (entered 1 (lit< tt) refl);
@@ -116,7 +110,7 @@ pub gateway-table : {x : Slices} → Content gateway x → Table x
 gateway-table c = rw (gateway-one c) rows
 
 -- the third stack, where the two differ in their count
-pub full-at-5 : full gateway 0 (5 ∷ 4 ∷ 1 ∷ []) ≡ passes-after 2
+pub full-at-5 : full (rightsOf gateway) 0 (5 ∷ 4 ∷ 1 ∷ []) ≡ passes-after 2
 unfolding look
 full-at-5 = ap (λ l. l .by-full) (rows .stack-1-4-5)
 

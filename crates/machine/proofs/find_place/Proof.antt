@@ -1,12 +1,23 @@
+-- Each way out of the function is a rule that leads to the next node, or says of all four that none does.
 use Prim.Native.Nat.{_-_}
 use native.Mathlib.Omega.{arith}
 use Rattle.machine.specs.Steps.Parts.{no-place}
 use Rattle.machine.specs.Steps.{Rule}
 use Rattle.machine.specs.Steps.Parts.{somewhere}
-use Rattle.truth.specs.Truth.Tests.{says-true, says-false}
+use Rattle.edges.specs.Leading.Search.{leads-so, leads-not}
 use borrow.Author.Needs.{needs}
 use Rattle.machine.proofs.find_place.Statement.{statement}
 use Rattle.machine.proofs.find_place.Tie as tie
+
+-- the state at the start, from where each of the three searches found nothing
+abbrev start-4 : tie.Else4 → tie.Start
+start-4 c = c .before .before .before .before .before .before .before .before .before .before .before .before
+
+abbrev start-6 : tie.Else6 → tie.Start
+start-6 c = c .before .before .before .before .before .before .before .before .before .before .before .before .before
+
+abbrev start-10 : tie.Else9 → tie.Start
+start-10 c = c .before .before .before .before .before .before .before .before .before .before .before .before .before .before .before .before
 
 shared-slice-read-if2 : tie.Need-shared-slice-read-if2
 shared-slice-read-if2 c = search needs
@@ -36,22 +47,22 @@ lead-requires : tie.Need-lead-requires
 lead-requires c κs = search needs
 
 returns-3 : tie.Need-returns-3
-returns-3 c = somewhere (Rule.call (omega arith) (c .before .before .if3 .taken) (says-true (c .before .lead .ensures) (c .if4 .taken)))
+returns-3 c = somewhere (Rule.call (omega arith) (c .before .before .if3 .taken) (leads-so (c .before .lead .ensures) (c .if4 .taken)))
 
 returns-4 : tie.Need-returns-4
-returns-4 c = no-place (λ h _. omega (arith, h)) (λ _ _. says-false (c .before .lead .ensures) (c .if4 .left)) (λ _ k _. omega (arith, k, c .before .before .if3 .taken)) (λ _ k _. omega (arith, k, c .before .before .if3 .taken))
+returns-4 c = no-place (λ h _. omega (arith, h)) (λ _ _. leads-not (c .before .lead .ensures) (start-4 c .pre .0 .0) (c .if4 .left)) (λ _ k _. omega (arith, k, c .before .before .if3 .taken)) (λ _ k _. omega (arith, k, c .before .before .if3 .taken))
 
 lead-requires-2 : tie.Need-lead-requires-2
 lead-requires-2 c κs = search needs
 
-sub-t24 : tie.Need-sub-t24
-sub-t24 c = search needs
+sub-t25 : tie.Need-sub-t25
+sub-t25 c = search needs
 
 returns-5 : tie.Need-returns-5
-returns-5 c = somewhere (Rule.pass (omega arith) (c .before .before .if5 .taken) (says-true (c .before .lead2 .ensures) (c .if6 .taken)))
+returns-5 c = somewhere (Rule.pass (omega arith) (c .before .before .if5 .taken) (leads-so (c .before .lead2 .ensures) (c .if6 .taken)))
 
 returns-6 : tie.Need-returns-6
-returns-6 c = no-place (λ h _. omega (arith, h)) (λ _ k _. omega (arith, k, c .before .before .if5 .taken)) (λ _ _. says-false (c .before .lead2 .ensures) (c .if6 .left)) (λ _ k _. omega (arith, k, c .before .before .if5 .taken))
+returns-6 c = no-place (λ h _. omega (arith, h)) (λ _ k _. omega (arith, k, c .before .before .if5 .taken)) (λ _ _. leads-not (c .before .lead2 .ensures) (start-6 c .pre .0 .0) (c .if6 .left)) (λ _ k _. omega (arith, k, c .before .before .if5 .taken))
 
 returns-7 : tie.Need-returns-7
 returns-7 c = no-place (λ h _. omega (arith, h)) (λ _ k _. c .before .before .if3 .left k) (λ _ k _. c .before .if5 .left k) (λ _ k _. c .if7 .taken k)
@@ -72,10 +83,10 @@ lead-requires-3 : tie.Need-lead-requires-3
 lead-requires-3 c κs = search needs
 
 returns-9 : tie.Need-returns-9
-returns-9 c = somewhere (Rule.back (omega arith) (c .before .before .before .before .if7 .left) (says-true (c .before .lead3 .ensures) (c .if9 .taken)))
+returns-9 c = somewhere (Rule.back (omega arith) (c .before .before .before .before .if7 .left) (leads-so (c .before .lead3 .ensures) (c .if9 .taken)))
 
 returns-10 : tie.Need-returns-10
-returns-10 c = no-place (λ h _. omega (arith, h)) (λ _ k _. c .before .before .before .before .before .before .if3 .left k) (λ _ k _. c .before .before .before .before .before .if5 .left k) (λ _ _. says-false (c .before .lead3 .ensures) (c .if9 .left))
+returns-10 c = no-place (λ h _. omega (arith, h)) (λ _ k _. c .before .before .before .before .before .before .if3 .left k) (λ _ k _. c .before .before .before .before .before .if5 .left k) (λ _ _. leads-not (c .before .lead3 .ensures) (start-10 c .pre .0 .0) (c .if9 .left))
 
 pub find-place-spec : {M : Type 1} → statement M
 find-place-spec =
@@ -93,7 +104,7 @@ find-place-spec =
     returns-3
     returns-4
     lead-requires-2
-    sub-t24
+    sub-t25
     returns-5
     returns-6
     returns-7

@@ -4,7 +4,7 @@ use Prim.Native.Nat.{ℕ, _-_, _<_}
 use lib.ListN.{length, getD}
 use native.Mathlib.Omega.{arith}
 use borrow.Author.Needs.{needs}
-use borrow.Author.Tests.{not-true, not-false, eq-eqb, ne-eqb}
+use borrow.Author.Tests.{not-true, not-false}
 use Rattle.stacks.specs.Machine.{rights, full}
 use Rattle.stacks.specs.Machine.Inspections.{full-bottom, full-lacks, full-stops, full-below}
 use Rattle.machine.specs.Inspect.Looking.{Looking, looking-start, looking-passes, looking-fails, looking-below, looking-end}
@@ -64,26 +64,29 @@ add-t18 c = let i = c .before .before .before .before in omega (arith, start i .
 returns : tie.Need-returns Inv-loop μ-loop
 returns c = let i = c .before .before .before .before in looking-fails (i .before .loop .inv) (i .loop-test .taken) (full-lacks _ _ _ _ (sym (c .before .has .ensures) ∙ not-true _ (c .if1 .taken)))
 
-shared-slice-read-if2 : tie.Need-shared-slice-read-if2 Inv-loop μ-loop
-shared-slice-read-if2 c = let i = c .before .before .before .before .before in omega (arith, node i, start i .pre .0 .2)
+shared-slice-read-is-privileged : tie.Need-shared-slice-read-is-privileged Inv-loop μ-loop
+shared-slice-read-is-privileged c = let i = c .before .before .before .before .before in omega (arith, node i, start i .pre .0 .2)
 
-sub-t21 : tie.Need-sub-t21 Inv-loop μ-loop
-sub-t21 c = let i = c .before .before .before .before .before .before in omega (arith, i .before .loop .inv .left)
+is-privileged-requires : tie.Need-is-privileged-requires Inv-loop μ-loop
+is-privileged-requires c κs = search needs
 
-add-t22 : tie.Need-add-t22 Inv-loop μ-loop
-add-t22 c = let i = c .before .before .before .before .before .before in omega (arith, start i .pre .0 .1)
+sub-t22 : tie.Need-sub-t22 Inv-loop μ-loop
+sub-t22 c = let i = c .before .before .before .before .before .before .before in omega (arith, i .before .loop .inv .left)
+
+add-t23 : tie.Need-add-t23 Inv-loop μ-loop
+add-t23 c = let i = c .before .before .before .before .before .before .before in omega (arith, start i .pre .0 .1)
 
 returns-2 : tie.Need-returns-2 Inv-loop μ-loop
-returns-2 c = let i = c .before .before .before .before .before .before in looking-passes (i .before .loop .inv) (i .loop-test .taken) (full-stops _ _ _ _ (sym (c .before .before .before .has .ensures) ∙ not-false _ (c .before .before .if1 .left)) (eq-eqb _ 1 (c .if2 .taken)))
+returns-2 c = let i = c .before .before .before .before .before .before .before in looking-passes (i .before .loop .inv) (i .loop-test .taken) (full-stops _ _ _ _ (sym (c .before .before .before .before .has .ensures) ∙ not-false _ (c .before .before .before .if1 .left)) (sym (c .before .is-privileged .ensures) ∙ c .if2 .taken))
 
 sub-h : tie.Need-sub-h Inv-loop μ-loop
 sub-h c = search needs
 
 loop-less : tie.Need-loop-less Inv-loop μ-loop
-loop-less c = let i = c .before .before .before .before .before .before in omega (arith, i .loop-test .taken)
+loop-less c = let i = c .before .before .before .before .before .before .before in omega (arith, i .loop-test .taken)
 
 loop-again : tie.Need-loop-again Inv-loop μ-loop
-loop-again c = let i = c .before .before .before .before .before .before in looking-below (i .before .loop .inv) (i .loop-test .taken) (full-below _ _ _ _ (sym (c .before .before .before .has .ensures) ∙ not-false _ (c .before .before .if1 .left)) (ne-eqb _ 1 (c .if2 .left)))
+loop-again c = let i = c .before .before .before .before .before .before .before in looking-below (i .before .loop .inv) (i .loop-test .taken) (full-below _ _ _ _ (sym (c .before .before .before .before .has .ensures) ∙ not-false _ (c .before .before .before .if1 .left)) (sym (c .before .is-privileged .ensures) ∙ c .if2 .left))
 
 returns-3 : tie.Need-returns-3 Inv-loop μ-loop
 returns-3 c = looking-end (c .before .loop .inv) (c .loop-test .left) (full-bottom _ _)
@@ -105,9 +108,10 @@ look-full-spec =
     sub-t17
     add-t18
     returns
-    shared-slice-read-if2
-    sub-t21
-    add-t22
+    shared-slice-read-is-privileged
+    is-privileged-requires
+    sub-t22
+    add-t23
     returns-2
     sub-h
     loop-less

@@ -38,9 +38,8 @@ find-place-requires : tie.Need-find-place-requires
 find-place-requires c κs =
     let a = accepted-is (rw (c .before .before .before .before .before .enum-told .given .1) at (c .before .before .before .before .before .before .before .check .ensures)) in
     let f = says-true (c .before .before .stack-fits .ensures) (not-false _ (c .before .if2 .left)) in
-    let e = a .shape .edges in
     let n = a .shape .nodes in
-    ((omega (arith, e .tos, e .froms), omega (arith, e .ways, e .froms), omega (arith, n .entries), f .held), rw (n .kinds) (f .nodes))
+    ((a .shape .edges, omega (arith, n .entries), f .held), rw (n .kinds) (f .nodes))
 
 enum-told-2 : tie.Need-enum-told-2
 enum-told-2 c = search needs

@@ -1,6 +1,5 @@
 use Rattle.verdict.specs.Verdict.{refused, given, sets, graph, asked, no-check}
 use Rattle.graph.specs.Judge.Laws.{accepted-is, refused-is}
-use Rattle.graph.specs.Graph.Code.{isCheck-code, check-code}
 use Rattle.truth.specs.Truth.Tests.{says-true, says-false}
 use borrow.Author.Tests.{eq-eqb, ne-eqb, not-true, not-false}
 use native.Mathlib.Omega.{arith}
@@ -51,7 +50,7 @@ returns-4 c =
     (says-true (c .before .before .before .before .before .before .before .sets-long .ensures) (not-false _ (c .before .before .before .before .before .before .if1 .left)))
     (accepted-is (rw (c .before .before .before .enum-told .given .1) at (c .before .before .before .before .before .check .ensures)))
     (omega arith)
-    (isCheck-code _ _ 0 ∙ ne-eqb _ 2 (c .if3 .taken)))
+    (ne-eqb _ 2 (c .if3 .taken)))
 
 mul-rule : tie.Need-mul-rule
 mul-rule c =
@@ -75,8 +74,8 @@ returns-5 c =
       long = says-true (c .before .before .before .before .before .before .before .before .before .sets-long .ensures) (not-false _ (c .before .before .before .before .before .before .before .before .if1 .left));
       acceptable = accepted-is (rw (c .before .before .before .before .before .enum-told .given .1) at (c .before .before .before .before .before .before .before .check .ensures));
       below = omega arith;
-      at-check = isCheck-code _ _ 0 ∙ eq-eqb _ 2 (c .before .before .if3 .left);
-      number = rw (check-code _ _ 0) (c .rule .ensures);
+      at-check = eq-eqb _ 2 (c .before .before .if3 .left);
+      number = c .rule .ensures;
     })
 
 pub verdict-spec : {M : Type 1} → statement M

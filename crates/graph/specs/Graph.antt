@@ -218,7 +218,7 @@ Leads g = LeadsIn (g .size .m) (g .edges)
 
 -- The two systems of document 01, figures 5 and 6 of document 001 with two departures from the print:
 -- * The figures empty trans at a privileged check of P whenever no arriving edge carries P. The inspection passes there if the check's
---   own node grants P, so `transSet` empties it only if that node does not.
+--   own node grants P, so `transRule` empties it only if that node does not.
 -- * Document 001 asks for the "largest" sets without making the side plain. Here MAY is the least solution (with a transfer loop the
 --   largest would leave ungranted permissions undenied), and SURE is the greatest, with MAY already found.
 pub data System : Type 0 where
@@ -253,9 +253,12 @@ pub inSet : Graph → System → Outs → ℕ → ℕ → Bool
 inSet g may x n p = someArrival g n (λ a. arriving g x n a p)
 inSet g sure x n p = everyArrival g n (λ a. arriving g x n a p)
 
--- call(n): the grants of n if n is privileged, else in(n).
+-- call(n): the grants of n if n is privileged, else in(n), which `arrived` says of p.
+unfoldable pub callRule : Graph → (n p : ℕ) (arrived : Bool) → Bool
+callRule g n p arrived = cond (privileged g n p) (grants g n p) arrived
+
 pub callSet : Graph → System → Outs → ℕ → ℕ → Bool
-callSet g y x n p = cond (privileged g n p) (grants g n p) (inSet g y x n p)
+callSet g y x n p = callRule g n p (inSet g y x n p)
 
 -- Past an unprivileged check n of q only what arrives with q in its MAY out set counts. Nothing: empty, in both systems. Otherwise MAY
 -- joins their MAY out sets; SURE takes the common part of their SURE out sets and adds q.
@@ -265,17 +268,19 @@ pastSet g w sure x n p =
     someArrival g n (λ a. arriving g w n a (check g n))
     && (eqb p (check g n) || everyArrival g n (λ a. arriving g w n a (check g n) ⇒ arriving g x n a p))
 
--- trans(n): of a privileged check of q in(n) if q is among its grants, else empty; of an unprivileged one as above; else in(n).
-pub transSet : Graph → Outs → System → Outs → ℕ → ℕ → Bool
-transSet g w y x n p =
-    cond (isCheck g n)
-    (cond (privileged g n (check g n)) (grants g n (check g n) && inSet g y x n p) (pastSet g w y x n p))
-    (inSet g y x n p)
+-- trans(n): of a privileged check of q in(n) if q is among its grants, else empty; of an unprivileged one as above, which `past` says of p; else
+-- in(n).
+unfoldable pub transRule : Graph → (n p : ℕ) (arrived past : Bool) → Bool
+transRule g n p arrived past =
+    cond (isCheck g n) (cond (privileged g n (check g n)) (grants g n (check g n) && arrived) past) arrived
 
 -- The out set of a call edge: call of its from node, cut to the grants of its to node. Of a transfer edge: trans of its from node.
+unfoldable pub outRule : Graph → (e p : ℕ) (arrived past : Bool) → Bool
+outRule g e p arrived past =
+    cond (isCall g e) (callRule g (from g e) p arrived && grants g (to g e) p) (transRule g (from g e) p arrived past)
+
 pub outSet : Graph → Outs → System → Outs → ℕ → ℕ → Bool
-outSet g w y x e p =
-    cond (isCall g e) (callSet g y x (from g e) p && grants g (to g e) p) (transSet g w y x (from g e) p)
+outSet g w y x e p = outRule g e p (inSet g y x (from g e) p) (pastSet g w y x (from g e) p)
 
 -- ---- The solutions, over every edge below M and every permission below K
 

@@ -11,11 +11,11 @@ use borrow.Author.Tests.{eqb-true, eqb-false}
 use Rattle.truth.specs.Truth.Bools.{by-split, clash, same-bool, both, left, right, either}
 use Rattle.sets.specs.Sets.{has}
 use Rattle.sets.specs.Sets.Members.{has-common}
-use Rattle.graph.specs.Graph.{Graph, isCheck, check, entry, grants, from, to, Acceptable, System, may, sure, Outs, Arrival, mark, edge, arriving, inSet, pastSet, outSet, Within, held}
+use Rattle.graph.specs.Graph.{outRule, Graph, isCheck, check, entry, grants, from, to, Acceptable, System, may, sure, Outs, Arrival, mark, edge, arriving, inSet, pastSet, outSet, Within, held}
 use Rattle.graph.specs.Graph.Arrivals.{Arrives, by-mark, by-edge, arriving-mark, arriving-edge}
 use Rattle.graph.specs.Graph.Edges.{in-may, in-sure, past-may, past-sure, PastSure}
 use Rattle.graph.specs.Graph.Rules.{from-low, check-low}
-use Rattle.graph.specs.Graph.Rule.{outRule, out-by-rule, out-rule-mono}
+use Rattle.graph.specs.Graph.Rule.{out-by-rule, out-rule-mono}
 use Rattle.graph.specs.Graph.Rounds.{LeastClosed, GreatestBacked}
 use Rattle.graph.specs.Graph.Solutions.{sure-mono}
 use Rattle.graph.specs.Graph.Code.{isCheck-code, check-code, entry-code, grants-code, from-code, to-code}

@@ -11,8 +11,8 @@ use Prim.Native.Nat.{min}
 use Rattle.sets.specs.Sets.{has, all, without}
 use Rattle.sets.specs.Sets.Members.{has-all, has-without, below-members}
 use Rattle.sets.specs.Sets.Order.{all-lt, without-lt}
-use Rattle.graph.specs.Graph.{Graph, privileged, grants, Acceptable, System, may, sure, Outs, inSet, callSet, deniedSet, grantedSet, Slices, held, Stored, Content}
-use Rattle.graph.specs.Graph.Rule.{callRule, call-by-rule}
+use Rattle.graph.specs.Graph.{callRule, Graph, privileged, grants, Acceptable, System, may, sure, Outs, inSet, callSet, deniedSet, grantedSet, Slices, held, Stored, Content}
+use Rattle.graph.specs.Graph.Rule.{call-by-rule}
 use Rattle.graph.specs.Graph.Rounds.{least-closed, greatest-backed}
 use Rattle.graph.specs.Graph.Code.{privileged-node, grants-code, denied-code, granted-code}
 use Rattle.flow.specs.Walk.{callNum, calledBy, carried, Good, NodesStored}

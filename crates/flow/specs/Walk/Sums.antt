@@ -14,11 +14,11 @@ use Rattle.truth.specs.Truth.Bools.{by-split, clash, both, left, right, either,
 use Rattle.sets.specs.Sets.{has, empty, common, add}
 use Rattle.sets.specs.Sets.Members.{has-common, has-empty, has-add, below-members, has-join}
 use Rattle.sets.specs.Sets.Order.{empty-lt, common-lt, add-lt}
-use Rattle.graph.specs.Graph.{Graph, isCheck, check, privileged, entry, grants, from, to, isCall, Acceptable, System, may, sure, Outs, Arrival, mark, edge, arriving, inSet, pastSet, outSet, held}
+use Rattle.graph.specs.Graph.{callRule, transRule, outRule, Graph, isCheck, check, privileged, entry, grants, from, to, isCall, Acceptable, System, may, sure, Outs, Arrival, mark, edge, arriving, inSet, pastSet, outSet, held}
 use Rattle.graph.specs.Graph.Arrivals.{Arrives, by-mark, by-edge, arriving-mark, arriving-edge}
 use Rattle.graph.specs.Graph.Edges.{in-may, in-sure, past-may, past-sure}
 use Rattle.graph.specs.Graph.Rules.{from-low, check-low}
-use Rattle.graph.specs.Graph.Rule.{callRule, transRule, outRule, out-by-rule, out-rule-mono}
+use Rattle.graph.specs.Graph.Rule.{out-by-rule, out-rule-mono}
 use Rattle.graph.specs.Graph.Code.{isCheck-code, check-code, privileged-node, entry-code, grants-code, from-code, to-code, isCall-code}
 use Rattle.flow.specs.Walk.{start, merge, callNum, pastNum, transNum, edgeNum, judgedNum, startIns, startPast, pastBy, carried, fromOf, toOf, counts, into, Begun, Toward, Closed, PastBelow, Setting, Good}
 use Rattle.flow.specs.Walk.Order.{toward-refl, toward-trans, merge-left, merge-both, merge-lt, start-lt, start-first}

@@ -8,7 +8,7 @@ use native.Mathlib.Omega.{arith}
 use borrow.Author.Tests.{eqb-true, eqb-false, eq-eqb, ne-eqb}
 use Rattle.truth.specs.Truth.{_⇒_}
 use Rattle.truth.specs.Truth.Bools.{by-split, both, left, right, either, or-left, or-right, given, when}
-use Rattle.graph.specs.Graph.{Graph, isCheck, check, privileged, grants, from, to, way, isCall, System, may, sure, Outs, Arrival, arriving, someArrival, everyArrival, inSet, callSet, pastSet, transSet, outSet}
+use Rattle.graph.specs.Graph.{outRule, transRule, callRule, Graph, isCheck, check, privileged, grants, from, to, way, isCall, System, may, sure, Outs, Arrival, arriving, someArrival, everyArrival, inSet, callSet, pastSet, outSet}
 use Rattle.graph.specs.Graph.Arrivals.{Arrives, some-arrives, arrives-some, every-arrives, arrives-every}
 
 -- ---- in(n)
@@ -26,15 +26,15 @@ module _ (g : Graph) (x : Outs) (n p : ℕ) where
 
 module _ (g : Graph) (y : System) (x : Outs) (n p : ℕ) where
   pub call-privileged : privileged g n p ≡ true → (callSet g y x n p ≡ true) ↔ (grants g n p ≡ true)
-  unfolding callSet
+  unfolding callSet callRule
   call-privileged v = (λ t. rw v at t, λ t. rw v t)
 
   pub call-at-least : privileged g n p ≡ false → inSet g y x n p ≡ true → grants g n p ≡ true → callSet g y x n p ≡ true
-  unfolding callSet
+  unfolding callSet callRule
   call-at-least v t _ = rw v t
 
   pub call-at-most : privileged g n p ≡ false → callSet g y x n p ≡ true → inSet g y x n p ≡ true
-  unfolding callSet
+  unfolding callSet callRule
   call-at-most v t = rw v at t
 
 -- ---- past an unprivileged check
@@ -91,7 +91,7 @@ module _ (g : Graph) (w : Outs) (y : System) (x : Outs) (e p : ℕ) where
   by-transfer c = ne-eqb (way g e) 0 (λ z. omega (arith, c, z))
 
   pub call-edge : way g e ≡ 0 → (outSet g w y x e p ≡ true) ↔ ((callSet g y x (from g e) p ≡ true) × (grants g (to g e) p ≡ true))
-  unfolding outSet
+  unfolding outSet outRule callSet
   call-edge c = (
     (λ t. let u : callSet g y x (from g e) p && grants g (to g e) p ≡ true = rw (by-call c) at t in (left _ _ u, right (callSet g y x (from g e) p) _ u)),
     λ r. rw (by-call c) (both (r .0) (r .1)),
@@ -99,13 +99,13 @@ module _ (g : Graph) (w : Outs) (y : System) (x : Outs) (e p : ℕ) where
 
   -- a transfer edge that leaves no check
   pub transfer-plain : way g e ≡ 1 → isCheck g (from g e) ≡ false → (outSet g w y x e p ≡ true) ↔ (inSet g y x (from g e) p ≡ true)
-  unfolding outSet transSet
+  unfolding outSet outRule callRule transRule
   transfer-plain c k = ((λ t. rw (by-transfer c, k) at t), λ t. rw (by-transfer c, k) t)
 
   -- a transfer edge that leaves a privileged check
   pub transfer-privileged : way g e ≡ 1 → isCheck g (from g e) ≡ true → privileged g (from g e) (check g (from g e)) ≡ true
       → (outSet g w y x e p ≡ true) ↔ ((grants g (from g e) (check g (from g e)) ≡ true) × (inSet g y x (from g e) p ≡ true))
-  unfolding outSet transSet
+  unfolding outSet outRule callRule transRule
   transfer-privileged c k v = (
     (λ t.
         let u : grants g (from g e) (check g (from g e)) && inSet g y x (from g e) p ≡ true = rw (by-transfer c, k, v) at t in
@@ -116,5 +116,5 @@ module _ (g : Graph) (w : Outs) (y : System) (x : Outs) (e p : ℕ) where
   -- a transfer edge that leaves an unprivileged check
   pub transfer-past : way g e ≡ 1 → isCheck g (from g e) ≡ true → privileged g (from g e) (check g (from g e)) ≡ false
       → (outSet g w y x e p ≡ true) ↔ (pastSet g w y x (from g e) p ≡ true)
-  unfolding outSet transSet
+  unfolding outSet outRule callRule transRule
   transfer-past c k v = ((λ t. rw (by-transfer c, k, v) at t), λ t. rw (by-transfer c, k, v) t)

@@ -5,7 +5,7 @@ use mathlib.Core.List.{[], _∷_}
 use Rattle.truth.specs.Truth.{first, some, every}
 use Rattle.sets.specs.Sets.Code.{has-code}
 use Rattle.sets.specs.Sets.Pack.{pack}
-use Rattle.graph.specs.Graph.{privilegedBy, Graph, graphOf, sizeOf, kind, isCheck, check, privileged, entry, grants, from, to, way, isCall, Acceptable, arriving, someArrival, everyArrival, inSet, callSet, pastSet, transSet, outSet, deniedSet, grantedSet, Slices, Content}
+use Rattle.graph.specs.Graph.{outRule, transRule, callRule, privilegedBy, Graph, graphOf, sizeOf, kind, isCheck, check, privileged, entry, grants, from, to, way, isCall, Acceptable, arriving, someArrival, everyArrival, inSet, callSet, pastSet, outSet, deniedSet, grantedSet, Slices, Content}
 use Rattle.graph.specs.Graph.Rounds.{sheet, written, rounds, mayRounds}
 use Rattle.graph.specs.Graph.Tables.{Computed, computed-accepted, computed-content, computed-one}
 use Rattle.graph.specs.Judge.{shapeTest, nodeTest, edgeTest, noEntry, judge}
@@ -32,7 +32,7 @@ gatewaySlices = record {
 }
 
 computed : Computed gateway gatewaySlices 3 3
-unfolding judge shapeTest nodeTest edgeTest noEntry first rounds written sheet pack some every someArrival everyArrival privilegedBy arriving inSet callSet pastSet transSet outSet deniedSet grantedSet
+unfolding judge shapeTest nodeTest edgeTest noEntry first rounds written sheet pack some every someArrival everyArrival privilegedBy arriving inSet callSet pastSet outSet deniedSet grantedSet callRule outRule transRule
 computed = record { accepted = refl; sets = simp has-code }
 
 pub gateway-accepted : Acceptable gateway
@@ -46,5 +46,5 @@ gateway-one = computed-one gateway gatewaySlices 3 3 computed
 
 -- after a single round MAY is not there yet
 pub gateway-one-round : mayRounds gateway 1 ≡ 3 ∷ 2 ∷ 0 ∷ 2 ∷ 3 ∷ 0 ∷ 0 ∷ 2 ∷ []
-unfolding rounds written sheet pack some every someArrival everyArrival privilegedBy arriving inSet callSet pastSet transSet outSet
+unfolding rounds written sheet pack some every someArrival everyArrival privilegedBy arriving inSet callSet pastSet outSet callRule outRule transRule
 gateway-one-round = simp has-code

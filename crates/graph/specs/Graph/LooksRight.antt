@@ -8,7 +8,7 @@ use mathlib.Core.Bool.{Bool, true, _&&_, or-true}
 use Rattle.truth.specs.Truth.{first, some, every}
 use Rattle.sets.specs.Sets.Code.{has-code}
 use Rattle.sets.specs.Sets.Pack.{pack}
-use Rattle.graph.specs.Graph.{privilegedBy, Graph, graphOf, sizeOf, kind, isCheck, check, privileged, entry, grants, from, to, way, isCall, arriving, someArrival, everyArrival, inSet, callSet, pastSet, transSet, outSet, MaySolution, deniedSet, grantedSet, Slices}
+use Rattle.graph.specs.Graph.{outRule, transRule, callRule, privilegedBy, Graph, graphOf, sizeOf, kind, isCheck, check, privileged, entry, grants, from, to, way, isCall, arriving, someArrival, everyArrival, inSet, callSet, pastSet, outSet, MaySolution, deniedSet, grantedSet, Slices}
 use Rattle.graph.specs.Graph.Rounds.{sheet, written, rounds}
 use Rattle.graph.specs.Graph.Tables.{Computed}
 use Rattle.graph.specs.Judge.{shapeTest, nodeTest, edgeTest, noEntry, judge}
@@ -56,7 +56,7 @@ pub record Tables : Type 0 where
   pub least-loop : Computed loop (slices (2 ∷ []) (1 ∷ []) (1 ∷ []) (1 ∷ [])) 1 1
 
 pub tables : Tables
-unfolding judge shapeTest nodeTest edgeTest noEntry first rounds written sheet pack some every someArrival everyArrival privilegedBy arriving inSet callSet pastSet transSet outSet deniedSet grantedSet
+unfolding judge shapeTest nodeTest edgeTest noEntry first rounds written sheet pack some every someArrival everyArrival privilegedBy arriving inSet callSet pastSet outSet deniedSet grantedSet callRule outRule transRule
 tables = record {
   privilege-ends = record { accepted = refl; sets = simp has-code };
   orphan-stays = record { accepted = refl; sets = simp has-code };
@@ -68,6 +68,6 @@ tables = record {
 
 -- The loop has a larger solution: that MAY is the least one is what denies permission 1 there.
 pub loop-larger : MaySolution loop (λ _ _. true)
-unfolding some someArrival arriving inSet transSet outSet
+unfolding some someArrival arriving inSet outSet outRule callRule transRule
 loop-larger zero p l k = sym (or-true (grants loop 0 p))
 loop-larger (suc e) p l k = absurd (omega arith)

@@ -1,31 +1,17 @@
--- An edge's out set and a node's call set as a rule of what its node came to hold: in(n), and what passes its check. Whoever computes the
--- sets from running sums of the nodes goes by this.
+-- The rules of call, trans and out sets, for whoever computes the sets from running sums of the nodes.
 use Prim.Native.Nat.{ℕ}
 use mathlib.Core.Path.{_≡_, refl}
 use mathlib.Core.Bool.{Bool, true, false, cond, _&&_}
 use Rattle.truth.specs.Truth.Bools.{both, left, right}
-use Rattle.graph.specs.Graph.{Graph, isCheck, check, privileged, grants, from, to, isCall, System, Outs, inSet, callSet, pastSet, transSet, outSet}
-
--- whether p is in call(n), where arrived says whether it is in in(n)
-unfoldable pub callRule : Graph → (n p : ℕ) (arrived : Bool) → Bool
-callRule g n p arrived = cond (privileged g n p) (grants g n p) arrived
-
--- whether p is in trans(n), where past says whether it is in what passes an unprivileged check
-unfoldable pub transRule : Graph → (n p : ℕ) (arrived past : Bool) → Bool
-transRule g n p arrived past =
-    cond (isCheck g n) (cond (privileged g n (check g n)) (grants g n (check g n) && arrived) past) arrived
-
-unfoldable pub outRule : Graph → (e p : ℕ) (arrived past : Bool) → Bool
-outRule g e p arrived past =
-    cond (isCall g e) (callRule g (from g e) p arrived && grants g (to g e) p) (transRule g (from g e) p arrived past)
+use Rattle.graph.specs.Graph.{Graph, isCheck, check, privileged, grants, from, to, isCall, System, Outs, inSet, callRule, callSet, pastSet, transRule, outRule, outSet}
 
 pub call-by-rule : (g : Graph) (y : System) (x : Outs) (n p : ℕ) → callSet g y x n p ≡ callRule g n p (inSet g y x n p)
-unfolding callSet callRule
+unfolding callSet
 call-by-rule g y x n p = refl
 
 pub out-by-rule : (g : Graph) (w : Outs) (y : System) (x : Outs) (e p : ℕ)
     → outSet g w y x e p ≡ outRule g e p (inSet g y x (from g e) p) (pastSet g w y x (from g e) p)
-unfolding outSet callSet transSet outRule callRule transRule
+unfolding outSet
 out-by-rule g w y x e p = refl
 
 call-rule-mono : (g : Graph) (n p : ℕ) (a a′ : Bool) → (a ≡ true → a′ ≡ true) → callRule g n p a ≡ true → callRule g n p a′ ≡ true

@@ -1,4 +1,4 @@
--- `machine::look_full` meets its contract. The loop's invariant: the answer from here is the answer from the start. Assumes nothing.
+-- The loop's invariant: the answer from here is the answer from the start.
 use mathlib.Core.Path.{_≡_, sym, _∙_}
 use Prim.Native.Nat.{ℕ, _-_, _<_}
 use lib.ListN.{length, getD}
@@ -62,7 +62,10 @@ add-t18 : tie.Need-add-t18 Inv-loop μ-loop
 add-t18 c = let i = c .before .before .before .before in omega (arith, start i .pre .0 .1)
 
 returns : tie.Need-returns Inv-loop μ-loop
-returns c = let i = c .before .before .before .before in looking-fails (i .before .loop .inv) (i .loop-test .taken) (full-lacks _ _ _ _ (sym (c .before .has .ensures) ∙ not-true _ (c .if1 .taken)))
+returns c =
+    let i = c .before .before .before .before in
+    looking-fails (i .before .loop .inv) (i .loop-test .taken)
+    (full-lacks _ _ _ _ (sym (c .before .has .ensures) ∙ not-true _ (c .if1 .taken)))
 
 shared-slice-read-is-privileged : tie.Need-shared-slice-read-is-privileged Inv-loop μ-loop
 shared-slice-read-is-privileged c = let i = c .before .before .before .before .before in omega (arith, node i, start i .pre .0 .2)
@@ -77,7 +80,10 @@ add-t23 : tie.Need-add-t23 Inv-loop μ-loop
 add-t23 c = let i = c .before .before .before .before .before .before .before in omega (arith, start i .pre .0 .1)
 
 returns-2 : tie.Need-returns-2 Inv-loop μ-loop
-returns-2 c = let i = c .before .before .before .before .before .before .before in looking-passes (i .before .loop .inv) (i .loop-test .taken) (full-stops _ _ _ _ (sym (c .before .before .before .before .has .ensures) ∙ not-false _ (c .before .before .before .if1 .left)) (sym (c .before .is-privileged .ensures) ∙ c .if2 .taken))
+returns-2 c =
+    let i = c .before .before .before .before .before .before .before in
+    looking-passes (i .before .loop .inv) (i .loop-test .taken)
+    (full-stops _ _ _ _ (sym (c .before .before .before .before .has .ensures) ∙ not-false _ (c .before .before .before .if1 .left)) (sym (c .before .is-privileged .ensures) ∙ c .if2 .taken))
 
 sub-h : tie.Need-sub-h Inv-loop μ-loop
 sub-h c = search needs
@@ -86,7 +92,10 @@ loop-less : tie.Need-loop-less Inv-loop μ-loop
 loop-less c = let i = c .before .before .before .before .before .before .before in omega (arith, i .loop-test .taken)
 
 loop-again : tie.Need-loop-again Inv-loop μ-loop
-loop-again c = let i = c .before .before .before .before .before .before .before in looking-below (i .before .loop .inv) (i .loop-test .taken) (full-below _ _ _ _ (sym (c .before .before .before .before .has .ensures) ∙ not-false _ (c .before .before .before .if1 .left)) (sym (c .before .is-privileged .ensures) ∙ c .if2 .left))
+loop-again c =
+    let i = c .before .before .before .before .before .before .before in
+    looking-below (i .before .loop .inv) (i .loop-test .taken)
+    (full-below _ _ _ _ (sym (c .before .before .before .before .has .ensures) ∙ not-false _ (c .before .before .before .if1 .left)) (sym (c .before .is-privileged .ensures) ∙ c .if2 .left))
 
 returns-3 : tie.Need-returns-3 Inv-loop μ-loop
 returns-3 c = looking-end (c .before .loop .inv) (c .loop-test .left) (full-bottom _ _)

@@ -1,4 +1,4 @@
--- `machine::look_quick` meets its contract. The loop's invariant: the answer from here is the answer from the start. Assumes nothing.
+-- The loop's invariant: the answer from here is the answer from the start.
 use mathlib.Core.Path.{_≡_, sym, _∙_}
 use Prim.Native.Nat.{ℕ, _-_, _<_}
 use lib.ListN.{length, getD}
@@ -61,7 +61,10 @@ add-t19 : tie.Need-add-t19 Inv-loop μ-loop
 add-t19 c = let i = c .before .before .before .before in omega (arith, start i .pre .0 .1)
 
 returns : tie.Need-returns Inv-loop μ-loop
-returns c = let i = c .before .before .before .before in looking-fails (i .before .loop .inv) (i .loop-test .taken) (quick-denies _ _ _ _ _ (sym (c .before .has .ensures) ∙ c .if1 .taken))
+returns c =
+    let i = c .before .before .before .before in
+    looking-fails (i .before .loop .inv) (i .loop-test .taken)
+    (quick-denies _ _ _ _ _ (sym (c .before .has .ensures) ∙ c .if1 .taken))
 
 mul-t12 : tie.Need-mul-t12 Inv-loop μ-loop
 mul-t12 c = let i = c .before .before .before .before in omega (arith, node i, start i .pre .0 .2)
@@ -79,7 +82,10 @@ add-t23 : tie.Need-add-t23 Inv-loop μ-loop
 add-t23 c = let i = c .before .before .before .before .before .before .before in omega (arith, start i .pre .0 .1)
 
 returns-2 : tie.Need-returns-2 Inv-loop μ-loop
-returns-2 c = let i = c .before .before .before .before .before .before .before in looking-passes (i .before .loop .inv) (i .loop-test .taken) (quick-grants _ _ _ _ _ (sym (c .before .before .before .before .has .ensures) ∙ c .before .before .before .if1 .left) (sym (c .before .has2 .ensures) ∙ c .if2 .taken))
+returns-2 c =
+    let i = c .before .before .before .before .before .before .before in
+    looking-passes (i .before .loop .inv) (i .loop-test .taken)
+    (quick-grants _ _ _ _ _ (sym (c .before .before .before .before .has .ensures) ∙ c .before .before .before .if1 .left) (sym (c .before .has2 .ensures) ∙ c .if2 .taken))
 
 sub-h : tie.Need-sub-h Inv-loop μ-loop
 sub-h c = search needs
@@ -88,7 +94,10 @@ loop-less : tie.Need-loop-less Inv-loop μ-loop
 loop-less c = let i = c .before .before .before .before .before .before .before in omega (arith, i .loop-test .taken)
 
 loop-again : tie.Need-loop-again Inv-loop μ-loop
-loop-again c = let i = c .before .before .before .before .before .before .before in looking-below (i .before .loop .inv) (i .loop-test .taken) (quick-below _ _ _ _ _ (sym (c .before .before .before .before .has .ensures) ∙ c .before .before .before .if1 .left) (sym (c .before .has2 .ensures) ∙ c .if2 .left))
+loop-again c =
+    let i = c .before .before .before .before .before .before .before in
+    looking-below (i .before .loop .inv) (i .loop-test .taken)
+    (quick-below _ _ _ _ _ (sym (c .before .before .before .before .has .ensures) ∙ c .before .before .before .if1 .left) (sym (c .before .has2 .ensures) ∙ c .if2 .left))
 
 returns-3 : tie.Need-returns-3 Inv-loop μ-loop
 returns-3 c = looking-end (c .before .loop .inv) (c .loop-test .left) (quick-bottom _ _ _)

@@ -2,6 +2,7 @@
 
 pub mod build;
 pub mod compare;
+pub mod fixed;
 pub mod fresh;
 pub mod graph;
 pub mod machine;
@@ -9,6 +10,7 @@ pub mod named;
 pub mod requests;
 pub mod rows;
 pub mod sets;
+pub mod shapes;
 pub mod solve;
 pub mod tally;
 pub mod text;

@@ -5,6 +5,7 @@ mod graph;
 mod machine;
 mod order;
 mod rows;
+mod shapes;
 mod solver;
 mod steps;
 mod text;
@@ -30,7 +31,7 @@ impl Case {
 pub fn by_subject() -> Vec<(&'static str, Vec<Case>)> {
     vec![
         ("graph", graph::cases()),
-        ("solver", solver::cases()),
+        ("solver", [solver::cases(), shapes::cases()].concat()),
         ("machine", [machine::cases(), steps::cases()].concat()),
         ("order", order::cases()),
         ("rows", rows::cases()),

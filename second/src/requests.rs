@@ -3,6 +3,7 @@
 mod calls;
 mod numbers;
 mod texts;
+mod watch;
 
 pub use calls::{printed_refusal, Call, Session};
 pub use numbers::{graph_numbers, spaced_numbers};

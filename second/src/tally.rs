@@ -14,6 +14,22 @@ pub struct Tally {
     pub verdicts: [u64; 4],
     pub passes: u64,
     pub fails: u64,
+    /// Of stacks that steps reach, by the solver's sets.
+    pub reached: Pairs,
+    /// Of stacks that were lent, by the solver's sets.
+    pub unreached: Pairs,
+}
+
+/// A full inspection and a quick one right after it, of one stack for one permission.
+#[derive(Clone, Debug, Default, PartialEq, Eq)]
+pub struct Pairs {
+    pub stacks: u64,
+    pub pairs: u64,
+    pub different: u64,
+    /// Pairs in which the quick one looked at more frames.
+    pub more_frames: u64,
+    pub frames_by_full: u64,
+    pub frames_by_quick: u64,
 }
 
 impl Tally {
@@ -30,6 +46,25 @@ impl Tally {
         add_each(&mut self.verdicts, &other.verdicts);
         self.passes += other.passes;
         self.fails += other.fails;
+        self.reached.add(&other.reached);
+        self.unreached.add(&other.unreached);
+    }
+
+    /// On every stack that was reached quick inspection answered as full and looked at no more
+    /// frames.
+    pub fn inspections_agree(&self) -> bool {
+        self.reached.different == 0 && self.reached.more_frames == 0
+    }
+}
+
+impl Pairs {
+    fn add(&mut self, other: &Pairs) {
+        self.stacks += other.stacks;
+        self.pairs += other.pairs;
+        self.different += other.different;
+        self.more_frames += other.more_frames;
+        self.frames_by_full += other.frames_by_full;
+        self.frames_by_quick += other.frames_by_quick;
     }
 }
 
@@ -44,7 +79,18 @@ impl fmt::Display for Tally {
         writeln!(out, "calls {}, by number {}", self.all_calls(), numbered(0, &self.calls))?;
         writeln!(out, "refusals, by number {}", numbered(1, &self.refusals[1..]))?;
         writeln!(out, "verdicts, by number {}", numbered(0, &self.verdicts))?;
-        writeln!(out, "inspections that pass {}, that fail {}", self.passes, self.fails)
+        writeln!(out, "inspections that pass {}, that fail {}", self.passes, self.fails)?;
+        writeln!(out, "full and quick on stacks that steps reach: {}", self.reached)?;
+        writeln!(out, "full and quick on other stacks: {}", self.unreached)
+    }
+}
+
+impl fmt::Display for Pairs {
+    fn fmt(&self, out: &mut fmt::Formatter) -> fmt::Result {
+        let Pairs { stacks, pairs, different, more_frames, frames_by_full, frames_by_quick } = self;
+        write!(out, "stacks {stacks}, pairs {pairs}, different answers {different}, ")?;
+        write!(out, "more frames by quick {more_frames}, ")?;
+        write!(out, "frames by full {frames_by_full}, by quick {frames_by_quick}")
     }
 }
 

@@ -6,6 +6,7 @@ use std::process::ExitCode;
 
 use second::compare::{compare, Difference, Outcome, Plan};
 use second::fresh;
+use second::tally::Tally;
 
 const USAGE: &str =
     "usage: fresh write SEED COUNT [LONGEST]\n       fresh compare SEED COUNT PROGRAM [ARGUMENTS...]";
@@ -56,8 +57,7 @@ fn report(plan: &Plan) -> ExitCode {
     match compare(plan) {
         Outcome::Same(tally) => {
             print!("{tally}");
-            println!("no difference");
-            ExitCode::SUCCESS
+            conclude(&tally)
         }
         Outcome::Different(difference) => {
             tell(plan.seed, &difference);
@@ -68,6 +68,15 @@ fn report(plan: &Plan) -> ExitCode {
             ExitCode::from(2)
         }
     }
+}
+
+fn conclude(tally: &Tally) -> ExitCode {
+    if !tally.inspections_agree() {
+        println!("quick inspection is not as good as full on a stack that steps reach");
+        return ExitCode::from(1);
+    }
+    println!("no difference");
+    ExitCode::SUCCESS
 }
 
 fn tell(seed: u64, difference: &Difference) {

@@ -18,6 +18,7 @@ pub fn request(random: &mut Random) -> Request {
     let graph = match random.below(500) {
         0 => graphs::large(random),
         1..=90 => damage::damaged(random),
+        91..=93 => graphs::shape(random),
         _ => graphs::usual(random),
     };
     let mut talk = Talk::about(graph, random);
@@ -28,25 +29,29 @@ pub fn request(random: &mut Random) -> Request {
     for _ in 0..talk.random.between(1, 3) {
         talk.some_scene();
     }
-    Request { letter: b'C', body: talk.body.into_bytes() }
+    talk.request()
 }
 
-struct Talk<'a> {
-    random: &'a mut Random,
+pub(super) struct Talk<'a> {
+    pub(super) random: &'a mut Random,
     /// Follows the calls, so that the next one can be chosen by what the last one led to.
-    session: Session,
+    pub(super) session: Session,
     body: String,
     unread: Tally,
 }
 
 impl Talk<'_> {
-    fn about(graph: Graph, random: &mut Random) -> Talk<'_> {
+    pub(super) fn about(graph: Graph, random: &mut Random) -> Talk<'_> {
         let body = spaced_numbers(&graph_numbers(&graph));
         Talk { random, session: Session::on(graph), body, unread: Tally::default() }
     }
 
+    pub(super) fn request(self) -> Request {
+        Request { letter: b'C', body: self.body.into_bytes() }
+    }
+
     /// Left out if the request would become longer than its head can say.
-    fn call(&mut self, call: Call) {
+    pub(super) fn call(&mut self, call: Call) {
         let numbers = spaced_numbers(&call.numbers());
         if self.body.len() + 1 + numbers.len() <= LONGEST_BODY {
             self.body += " ";
@@ -79,9 +84,18 @@ impl Talk<'_> {
         self.session.graph.kinds.len()
     }
 
-    fn solve(&mut self) {
+    fn right_lengths(&self) -> [usize; 4] {
         let (nodes, edges) = (self.node_slice(), self.session.graph.froms.len());
-        let mut lengths = [nodes, nodes, edges, edges];
+        [nodes, nodes, edges, edges]
+    }
+
+    pub(super) fn solve_into_right_lengths(&mut self) {
+        let lengths = self.right_lengths();
+        self.call(Call::Solve { lengths });
+    }
+
+    fn solve(&mut self) {
+        let mut lengths = self.right_lengths();
         if self.random.one_in(10) {
             let place = self.random.below(4);
             let length = lengths[place];
@@ -167,7 +181,7 @@ impl Talk<'_> {
     }
 
     /// Nodes that the rules lead to, inspection set aside.
-    fn next_nodes(&self) -> Vec<u64> {
+    pub(super) fn next_nodes(&self) -> Vec<u64> {
         let Session { graph, stack, height, .. } = &self.session;
         let height = *height as usize;
         if graph.check().is_err() || height > stack.len() {
@@ -194,7 +208,7 @@ impl Talk<'_> {
         self.call(Call::Step { next });
     }
 
-    fn some_nodes(&mut self, length: usize) -> Vec<u16> {
+    pub(super) fn some_nodes(&mut self, length: usize) -> Vec<u16> {
         let nodes = self.node_slice().max(1);
         (0..length).map(|_| self.random.below(nodes) as u16).collect()
     }

@@ -5,6 +5,7 @@ use crate::graph::{
     Graph, CALL, CALL_EDGE, CHECK, MOST_EDGES, MOST_NODES, MOST_PERMISSIONS, RETURN, TRANSFER_EDGE,
 };
 use crate::sets;
+use crate::shapes;
 
 pub fn usual(random: &mut Random) -> Graph {
     let k = some_k(random);
@@ -39,6 +40,24 @@ pub fn large(random: &mut Random) -> Graph {
 pub fn largest(random: &mut Random) -> Graph {
     let k = some_k(random);
     of_size(random, k, MOST_NODES, MOST_EDGES)
+}
+
+/// Small enough that a walk comes to most of its nodes.
+pub fn for_walks(random: &mut Random) -> Graph {
+    let (k, n) = (random.between(1, 8), random.between(6, 24));
+    let m = random.between(2 * n, 3 * n);
+    of_size(random, k, n, m)
+}
+
+/// One that a solver takes long on.
+pub fn shape(random: &mut Random) -> Graph {
+    let k = some_k(random);
+    match random.below(4) {
+        0 => shapes::chain(k, random.between(1, 200)),
+        1 => shapes::doubled(k, random.between(1, 200)),
+        2 => shapes::ring(k, random.below(60)),
+        _ => shapes::laps(k, random.between(1, 60)),
+    }
 }
 
 fn some_k(random: &mut Random) -> usize {

@@ -23,7 +23,7 @@ pub fn cases() -> Vec<Case> {
 }
 
 /// All that is stored, then the verdict at every node; it is refused where there is no check.
-fn judged(name: &str, graph: &Graph) -> Case {
+pub(super) fn judged(name: &str, graph: &Graph) -> Case {
     let verdicts = (0..graph.n as u64).map(verdict);
     let calls: Vec<Call> = [solve(graph)].into_iter().chain(verdicts).collect();
     called(format!("solve: {name}"), graph, &calls)

@@ -1,6 +1,7 @@
 //! The calls of a C request and their answers.
 
 use super::numbers::{as_index, push_slice, spaced_numbers, Numbers};
+use super::watch::Watch;
 use super::Malformed;
 use crate::graph::{Graph, Refusal, MOST_EDGES, MOST_NODES};
 use crate::machine::{self, Inspection};
@@ -106,16 +107,20 @@ pub struct Session {
     pub granted: Vec<u64>,
     pub stack: Vec<u16>,
     pub height: u64,
+    watch: Watch,
 }
 
 impl Session {
     pub fn on(graph: Graph) -> Session {
-        Session { graph, denied: vec![], granted: vec![], stack: vec![], height: 0 }
+        let (denied, granted, stack, watch) = (vec![], vec![], vec![], Watch::new());
+        Session { graph, denied, granted, stack, height: 0, watch }
     }
 
     pub fn answer(&mut self, call: &Call, tally: &mut Tally) -> String {
         tally.calls[call.number()] += 1;
-        let mut answer = self.take(call, tally).unwrap_or_else(|refusal| {
+        let taken = self.take(call, tally);
+        self.watch.follow(call, taken.is_ok());
+        let mut answer = taken.unwrap_or_else(|refusal| {
             tally.refusals[usize::from(refusal.number)] += 1;
             refused_row(refusal)
         });
@@ -130,9 +135,15 @@ impl Session {
             Call::Check => self.graph.check().map(|()| "accepted\n".to_string()),
             Call::Solve { lengths } => self.solve(lengths),
             Call::Verdict { node } => self.verdict(node, tally),
-            Call::Full { permission } => self.full(permission).map(|found| inspected(found, tally)),
+            Call::Full { permission } => {
+                let found = self.full(permission)?;
+                self.watch.full(permission, found);
+                Ok(inspected(found, tally))
+            }
             Call::Quick { permission } => {
-                self.quick(permission).map(|found| inspected(found, tally))
+                let found = self.quick(permission)?;
+                self.watch.quick(permission, found, tally);
+                Ok(inspected(found, tally))
             }
             Call::Step { next } => self.step(next),
             Call::LendSets { ref denied, ref granted } => {

@@ -1,6 +1,6 @@
 //! The made-up requests: what they must have among them, and that they follow from their seed.
 
-use crate::fresh::request;
+use crate::fresh::{request, walk};
 use crate::requests::{split, Request, LONGEST_BODY};
 use crate::tally::Tally;
 
@@ -46,4 +46,28 @@ fn requests_keep_to_their_form() {
     assert!(requests.iter().all(|request| request.body.len() <= LONGEST_BODY));
     let bytes: Vec<u8> = requests.iter().flat_map(Request::to_bytes).collect();
     assert_eq!(split(&bytes).unwrap(), requests);
+}
+
+/// The counts are there so that the comparison can't be about nothing.
+#[test]
+fn quick_inspection_is_as_good_as_full_on_walks() {
+    let mut tally = Tally::default();
+    for index in 0..2_500 {
+        walk(4, index).answer(&mut tally).unwrap();
+    }
+    println!("{tally}");
+    assert!(tally.inspections_agree(), "{tally}");
+    assert!(tally.reached.stacks >= 100_000 && tally.reached.pairs >= 400_000, "{tally}");
+    assert!(tally.reached.frames_by_quick < tally.reached.frames_by_full, "{tally}");
+    assert!(tally.unreached.different > 1_000, "{tally}");
+}
+
+#[test]
+fn walks_are_among_the_requests() {
+    let mut tally = Tally::default();
+    for index in 0..SOME {
+        request(1, index).answer(&mut tally).unwrap();
+    }
+    assert!(tally.inspections_agree(), "{tally}");
+    assert!(tally.reached.stacks > 5_000 && tally.unreached.different > 100, "{tally}");
 }

@@ -1,4 +1,5 @@
 mod cases;
+mod fixed;
 mod fresh;
 mod gateway;
 mod graph_check;
@@ -9,4 +10,5 @@ mod named;
 mod paper_example;
 mod properties;
 mod requests;
+mod shapes;
 mod text_table;

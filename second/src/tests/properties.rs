@@ -102,6 +102,7 @@ fn assert_inspections_agree(graph: &Graph, solution: &Solution, stack: &[u16]) {
             quick_inspection(graph, &solution.denied, &solution.granted, stack, height, permission)
                 .unwrap();
         assert_eq!(full.passes, quick.passes, "{graph:?} {stack:?} {permission}");
+        assert!(quick.frames <= full.frames, "{graph:?} {stack:?} {permission}");
     }
 }
 

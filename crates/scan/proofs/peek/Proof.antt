@@ -2,8 +2,8 @@ use Prim.Native.Nat.{ℕ}
 use mathlib.Core.Path.{sym}
 use lib.ListN.{List·getD-eq-default}
 use borrow.Author.Needs.{needs}
-use Rattle.lex.proofs.peek.Statement.{statement}
-use Rattle.lex.proofs.peek.Tie as tie
+use Rattle.scan.proofs.peek.Statement.{statement}
+use Rattle.scan.proofs.peek.Tie as tie
 
 shared-slice-read-result : tie.Need-shared-slice-read-result
 shared-slice-read-result c = search needs

@@ -11,9 +11,9 @@ use lib.Seq.{drop-cons}
 use lib.Dec.{lit<, leb, ltb, eqb}
 use borrow.Author.Tests.{le-leb, lt-leb, lt-ltb, le-ltb, eq-eqb, ne-eqb, leb-true, ltb-false}
 use Rattle.truth.specs.Truth.Bools.{by-split}
-use Rattle.lex.specs.declared.Decimal.{Decimal}
-use Rattle.lex.specs.declared.Decimal.the-variants.{Value, Not}
-use Rattle.lex.specs.Lex.{digitsFrom, numberOf}
+use Rattle.scan.specs.declared.Decimal.{Decimal}
+use Rattle.scan.specs.declared.Decimal.the-variants.{Value, Not}
+use Rattle.scan.specs.Scan.{digitsFrom, numberOf}
 
 module _ (v : ℕ) (l : List ℕ) (i : ℕ) where
   pub digits-step : i < length l → 48 ≤ getD l i 0 → getD l i 0 ≤ 57 → digitsFrom v (drop i l) ≡ digitsFrom (v * 10 + (getD l i 0 - 48)) (drop (i + 1) l)

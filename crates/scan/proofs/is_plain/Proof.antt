@@ -1,8 +1,8 @@
 use mathlib.Core.Path.{sym, _∙_}
-use Rattle.lex.specs.Lex.Fields.{plain-above, plain-last}
+use Rattle.scan.specs.Scan.Runs.{plain-above, plain-last}
 use borrow.Author.Needs.{needs}
-use Rattle.lex.proofs.is_plain.Statement.{statement}
-use Rattle.lex.proofs.is_plain.Tie as tie
+use Rattle.scan.proofs.is_plain.Statement.{statement}
+use Rattle.scan.proofs.is_plain.Tie as tie
 
 returns : tie.Need-returns
 returns c = sym (plain-above _ (c .if1 .taken))

@@ -1,12 +1,13 @@
+-- What is read so far, v, has fewer than i + 1 digits, and with it the digits to come say the same number.
 use Prim.Native.Nat.{ℕ, _+_, _-_, _*_, _^_, _<_, suc}
 use mathlib.Core.Path.{_≡_, refl, ap, sym, _∙_}
 use borrow.Author.Needs.{needs}
 use native.Mathlib.Omega.{arith}
 use lib.ListN.{length, drop}
-use Rattle.lex.specs.Lex.Numbers.{digits-step, digits-low, digits-high, digits-out, ten-small, ten-step}
-use Rattle.lex.specs.Lex.{digitsFrom}
-use Rattle.lex.proofs.read_digits.Statement.{statement}
-use Rattle.lex.proofs.read_digits.Tie as tie
+use Rattle.scan.specs.Scan.Numbers.{digits-step, digits-low, digits-high, digits-out, ten-small, ten-step}
+use Rattle.scan.specs.Scan.{digitsFrom}
+use Rattle.scan.proofs.read_digits.Statement.{statement}
+use Rattle.scan.proofs.read_digits.Tie as tie
 
 abbrev Inv-loop : tie.InvT-loop
 Inv-loop s v₀ i₀ v i = (digitsFrom v (drop i s) ≡ digitsFrom 0 s) × (v < 10 ^ i)
@@ -37,9 +38,6 @@ mul-v c = omega (arith, ten-small (c .before .before .before .before .loop .i) (
 
 widen-requires : tie.Need-widen-requires Inv-loop μ-loop
 widen-requires c κs = search needs
-
-sub-v : tie.Need-sub-v Inv-loop μ-loop
-sub-v c = omega arith
 
 add-v : tie.Need-add-v Inv-loop μ-loop
 add-v c = omega (arith, ten-small (c .before .before .before .before .before .loop .i) (omega arith))
@@ -76,7 +74,6 @@ read-digits-spec =
     returns-2
     mul-v
     widen-requires
-    sub-v
     add-v
     add-i
     loop-less

@@ -8,11 +8,11 @@ use lib.Dec.{eqb}
 use lib.Bits.{bitOr}
 use borrow.Author.Tests.{le-leb, le-ltb, eqb-true, eqb-false, ne-eqb}
 use Rattle.truth.specs.Truth.Bools.{by-split}
-use Rattle.lex.specs.declared.Decimal.the-variants.{Value}
-use Rattle.lex.specs.Lex.{digitsFrom, numberOf, words, members, ascending, membersOf}
-use Rattle.lex.specs.Lex.Numbers.{number-zero, number-digits}
-use Rattle.lex.specs.Lex.Lists.{list-some}
-use Rattle.lex.specs.Lex.Bare.{Bare, none, byte, calm-above, calm-space, bare-then}
+use Rattle.scan.specs.declared.Decimal.the-variants.{Value}
+use Rattle.scan.specs.Scan.{digitsFrom, numberOf, words, members, ascending, membersOf}
+use Rattle.scan.specs.Scan.Numbers.{number-zero, number-digits}
+use Rattle.scan.specs.Scan.Lists.{list-some}
+use Rattle.scan.specs.Scan.Bare.{Bare, none, byte, calm-above, calm-space, bare-then}
 
 -- From `at` up to e stand the digits w.
 pub data Digital (s : List ℕ) : ℕ → List ℕ → ℕ → Type 0 where

@@ -14,12 +14,12 @@ use lib.Pow.{pow-lt, pow-mono}
 use borrow.Author.Tests.{lt-ltb, le-ltb, ltb-true, ltb-false}
 use Rattle.truth.specs.Truth.Bools.{by-split}
 use Rattle.truth.specs.Truth.Kit.{shl-one}
-use Rattle.lex.specs.declared.Class.the-variants.{Word}
-use Rattle.lex.specs.declared.Decimal.{Decimal}
-use Rattle.lex.specs.declared.Decimal.the-variants.{Value, Not}
-use Rattle.lex.specs.declared.Listed.{Listed}
-use Rattle.lex.specs.declared.Listed.the-variants.{Held, Beyond, NoList}
-use Rattle.lex.specs.Lex.{run, partOf, numberOf, onto, words, Members, members, none, ascending, membersOf, heldOf}
+use Rattle.scan.specs.declared.Class.the-variants.{Word}
+use Rattle.scan.specs.declared.Decimal.{Decimal}
+use Rattle.scan.specs.declared.Decimal.the-variants.{Value, Not}
+use Rattle.scan.specs.declared.Listed.{Listed}
+use Rattle.scan.specs.declared.Listed.the-variants.{Held, Beyond, NoList}
+use Rattle.scan.specs.Scan.{run, partOf, numberOf, onto, words, Members, members, none, ascending, membersOf, heldOf}
 
 -- a set as 64 bits with one member more
 abbrev pub withMember : Listed → ℕ → Listed

@@ -1,8 +1,8 @@
 use mathlib.Core.Path.{sym, _∙_}
-use Rattle.lex.specs.Lex.Lists.{with-low, with-high}
+use Rattle.scan.specs.Scan.Lists.{with-low, with-high}
 use borrow.Author.Needs.{needs}
-use Rattle.lex.proofs.add.Statement.{statement}
-use Rattle.lex.proofs.add.Tie as tie
+use Rattle.scan.proofs.add.Statement.{statement}
+use Rattle.scan.proofs.add.Tie as tie
 
 enum-known-set : tie.Need-enum-known-set
 enum-known-set c = search needs

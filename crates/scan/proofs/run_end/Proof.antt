@@ -4,10 +4,10 @@ use borrow.Author.Needs.{needs}
 use native.Mathlib.Omega.{arith}
 use lib.ListN.{length, drop}
 use borrow.Author.Tests.{not-true, not-false}
-use Rattle.lex.specs.Lex.Fields.{run-step, run-stop, run-out}
-use Rattle.lex.specs.Lex.{run}
-use Rattle.lex.proofs.run_end.Statement.{statement}
-use Rattle.lex.proofs.run_end.Tie as tie
+use Rattle.scan.specs.Scan.Runs.{run-step, run-stop, run-out}
+use Rattle.scan.specs.Scan.{run}
+use Rattle.scan.proofs.run_end.Statement.{statement}
+use Rattle.scan.proofs.run_end.Tie as tie
 
 abbrev Inv-loop : tie.InvT-loop
 Inv-loop s at c i₀ i = i + run c (drop i s) ≡ at + run c (drop at s)

@@ -5,8 +5,8 @@ use Prim.Native.Nat.{ℕ, _-_, _≤_}
 use native.Mathlib.Nat.{sub-eq-zero-of-le, le-of-lt}
 use lib.ListN.{length, drop, length-drop, drop-of-length-le}
 use lib.Seq.{take-all, take-nil}
-use Rattle.lex.proofs.field.Statement.{statement}
-use Rattle.lex.proofs.field.Tie as tie
+use Rattle.scan.proofs.field.Statement.{statement}
+use Rattle.scan.proofs.field.Tie as tie
 
 part-result-start : tie.Need-part-result-start
 part-result-start c = search needs

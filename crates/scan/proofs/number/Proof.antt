@@ -1,8 +1,8 @@
 use mathlib.Core.Path.{sym, _∙_}
-use Rattle.lex.specs.Lex.Numbers.{number-none, number-long, number-longest, number-zero, number-needless, number-digits}
+use Rattle.scan.specs.Scan.Numbers.{number-none, number-long, number-longest, number-zero, number-needless, number-digits}
 use borrow.Author.Needs.{needs}
-use Rattle.lex.proofs.number.Statement.{statement}
-use Rattle.lex.proofs.number.Tie as tie
+use Rattle.scan.proofs.number.Statement.{statement}
+use Rattle.scan.proofs.number.Tie as tie
 
 returns : tie.Need-returns
 returns c = sym (number-none _ _ (c .if1 .taken))

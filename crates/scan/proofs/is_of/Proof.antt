@@ -1,9 +1,9 @@
 use mathlib.Core.Path.{sym, ap, _∙_}
-use Rattle.lex.specs.declared.Class.{Class}
-use Rattle.lex.specs.Lex.{belongs}
+use Rattle.scan.specs.declared.Class.{Class}
+use Rattle.scan.specs.Scan.{belongs}
 use borrow.Author.Needs.{needs}
-use Rattle.lex.proofs.is_of.Statement.{statement}
-use Rattle.lex.proofs.is_of.Tie as tie
+use Rattle.scan.proofs.is_of.Statement.{statement}
+use Rattle.scan.proofs.is_of.Tie as tie
 
 enum-told : tie.Need-enum-told
 enum-told c = search needs

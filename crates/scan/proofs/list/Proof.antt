@@ -1,14 +1,14 @@
 use mathlib.Core.Path.{_≡_, sym, ap, _∙_}
 use native.Mathlib.Omega.{arith}
-use Rattle.lex.specs.Lex.{numberOf, heldOf}
-use Rattle.lex.specs.Lex.Lists.{list-none, going-start, going-not, going-low, going-last, going-next}
-use Rattle.lex.specs.Lex.Numbers.{number-fits}
+use Rattle.scan.specs.Scan.{numberOf, heldOf}
+use Rattle.scan.specs.Scan.Lists.{list-none, going-start, going-not, going-low, going-last, going-next}
+use Rattle.scan.specs.Scan.Numbers.{number-fits}
 use Prim.Native.Nat.{_+_, _-_}
 use lib.ListN.{length}
-use Rattle.lex.specs.Lex.Lists.{Going}
+use Rattle.scan.specs.Scan.Lists.{Going}
 use borrow.Author.Needs.{needs}
-use Rattle.lex.proofs.list.Statement.{statement}
-use Rattle.lex.proofs.list.Tie as tie
+use Rattle.scan.proofs.list.Statement.{statement}
+use Rattle.scan.proofs.list.Tie as tie
 
 abbrev Inv-loop : tie.InvT-loop
 Inv-loop s most set₀ at₀ low₀ set at low = Going most s set at low

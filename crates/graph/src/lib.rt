@@ -71,7 +71,16 @@ pub const CALL: u8 = 0;
 pub const TRANSFER: u8 = 1;
 
 // The kinds of a node, by number.
+pub const KIND_CALL: u8 = 0;
+
+pub const KIND_RETURN: u8 = 1;
+
 pub const KIND_CHECK: u8 = 2;
+
+// The most nodes and edges that a graph has.
+pub const MOST_NODES: usize = 1024;
+
+pub const MOST_EDGES: usize = 4096;
 
 // How many permissions, nodes and edges there are.
 pub struct Size {

@@ -143,7 +143,10 @@ pub fn number(s: &[u8], most: usize) -> Decimal
     read_digits(s)
 }
 
-// A set of numbers: its bits where every member is below 64.
+// A set is held in so many bits.
+pub const SET_BITS: usize = 64;
+
+// A set of numbers: its bits where they hold every member.
 pub enum Listed {
     Held(u64),
     Beyond,
@@ -155,7 +158,7 @@ fn add(set: Listed, v: usize) -> Listed
 {
     match set {
         Listed::Held(bits) => {
-            if v < 64 {
+            if v < SET_BITS {
                 return Listed::Held(bits | (1u64 << v));
             }
             Listed::Beyond

@@ -5,6 +5,7 @@ use graph::Size;
 use records::EdgeRow;
 use records::Header;
 use records::NodeRow;
+use shortcuts;
 ghost use mathlib.Core.Path.{_≡_};
 ghost use Prim.Native.Nat.{ℕ, _<_, _≤_};
 ghost use lib.ListN.{length, take};
@@ -44,7 +45,7 @@ fn read_nodes(
     let mut p = from;
     let mut i: usize = 0;
     while i < n {
-        let NodeRow::At { node, next } = records::read_node(s, p, i) else {
+        let NodeRow::At { node, next } = shortcuts::read_node(s, p, i) else {
             return Ran::Stop(i);
         };
         kinds[i] = node.kind;
@@ -73,7 +74,7 @@ fn read_edges(
     let mut p = from;
     let mut i: usize = 0;
     while i < m {
-        let EdgeRow::At { edge, next } = records::read_edge(s, p) else {
+        let EdgeRow::At { edge, next } = shortcuts::read_edge(s, p) else {
             return Ran::Stop(i);
         };
         froms[i] = edge.from;

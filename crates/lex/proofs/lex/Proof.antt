@@ -1,6 +1,7 @@
 use mathlib.Core.Path.{sym, _∙_}
 use native.Mathlib.Omega.{arith}
-use Rattle.lex.specs.Lex.Fields.{in-range, field-quoted, field-plain}
+use Rattle.scan.specs.Scan.Runs.{in-range}
+use Rattle.lex.specs.Lex.Fields.{field-quoted, field-plain}
 use borrow.Author.Needs.{needs}
 use Rattle.lex.proofs.lex.Statement.{statement}
 use Rattle.lex.proofs.lex.Tie as tie

@@ -1,45 +1,14 @@
--- How runs and fields go on from one position of a text to the next.
-use Prim.Native.Nat.{ℕ, zero, suc, _+_, _-_, _≤_, _<_, suc-le-suc}
-use mathlib.Core.Path.{_≡_, refl, ap, sym, _∙_}
-use mathlib.Core.Bool.{true, false, not}
-use mathlib.Core.List.{List, [], _∷_}
-use native.Mathlib.Numerals.{add-one}
-use native.Mathlib.Omega.{arith}
-use lib.ListN.{length, getD, drop, drop-of-length-le}
-use lib.Seq.{drop-cons}
-use lib.Dec.{eqb}
+-- How fields go on from one position of a text to the next.
+use Prim.Native.Nat.{ℕ, _+_, _≤_, _<_}
+use mathlib.Core.Path.{_≡_, ap}
+use mathlib.Core.List.{List}
+use lib.ListN.{length, getD, drop}
 use borrow.Author.Tests.{le-leb, lt-leb, lt-ltb, le-ltb, eq-eqb, ne-eqb}
-use Rattle.lex.specs.declared.Class.{Class}
-use Rattle.lex.specs.declared.Class.the-variants.{Plain, Inside}
+use Rattle.scan.specs.declared.Class.the-variants.{Plain, Inside}
+use Rattle.scan.specs.Scan.{run}
 use Rattle.lex.specs.declared.Lexed.{Lexed}
 use Rattle.lex.specs.declared.Lexed.the-variants.{More, Last, Bad}
-use Rattle.lex.specs.Lex.{belongs, run, followed, quotedAt, plainAt, fieldAt, beforeComma, beforeEnd, commaAt, lastAt}
-
-module _ (b : ℕ) (p : b ≡ 34 → ⊥) (q : b ≡ 44 → ⊥) (r : b ≡ 13 → ⊥) where
-  pub plain-last : belongs Plain b ≡ not (eqb b 10)
-  plain-last = simp (ne-eqb b _ p, ne-eqb b _ q, ne-eqb b _ r)
-
-pub plain-above : (b : ℕ) → 44 < b → belongs Plain b ≡ true
-plain-above b h = plain-last b (λ e. omega (arith, e)) (λ e. omega (arith, e)) (λ e. omega (arith, e)) ∙ ap not (ne-eqb b 10 (λ e. omega (arith, e)))
-
-module _ (c : Class) (l : List ℕ) (i : ℕ) where
-  pub run-step : i < length l → belongs c (getD l i 0) ≡ true → run c (drop i l) ≡ suc (run c (drop (i + 1) l))
-  unfolding run
-  run-step h m = rw (add-one, drop-cons l i 0) (simp m)
-
-  pub run-stop : i < length l → belongs c (getD l i 0) ≡ false → run c (drop i l) ≡ 0
-  unfolding run
-  run-stop h m = rw (drop-cons l i 0) (simp m)
-
-  pub run-out : length l ≤ i → run c (drop i l) ≡ 0
-  unfolding run
-  run-out h = rw (drop-of-length-le l)
-
--- a byte that is not 0 stands within the list
-pub in-range : (l : List ℕ) (i : ℕ) → 0 < getD l i 0 → i < length l
-in-range [] i h = absurd (omega arith)
-in-range (x ∷ l) zero h = omega arith
-in-range (x ∷ l) (suc i) h = suc-le-suc (in-range l i h)
+use Rattle.lex.specs.Lex.{followed, quotedAt, plainAt, fieldAt, beforeComma, beforeEnd, commaAt, lastAt}
 
 module _ (s : List ℕ) (b e a : ℕ) where
   pub followed-end : length s ≤ a → followed s b e a ≡ Last b e a

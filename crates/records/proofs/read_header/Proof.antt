@@ -2,7 +2,8 @@ use mathlib.Core.Path.{sym, _∙_, ap}
 use borrow.Author.Tests.{not-true, not-false}
 use Rattle.truth.specs.Truth.Tests.{says-true, says-false, true-says, false-says}
 use Rattle.graph.specs.Judge.Laws.{range?}
-use Rattle.records.specs.Records.Rows.{headerOf, three-told, header-none, header-out, header-all}
+use Rattle.records.specs.Records.{headerOf}
+use Rattle.records.specs.Records.Rows.{three-told, header-none, header-out, header-all}
 use borrow.Author.Needs.{needs}
 use Rattle.records.proofs.read_header.Statement.{statement}
 use Rattle.records.proofs.read_header.Tie as tie

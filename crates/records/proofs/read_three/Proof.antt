@@ -1,5 +1,6 @@
 use mathlib.Core.Path.{sym, _∙_, ap}
-use Rattle.records.specs.Records.Rows.{threeRowOf, three-1, three-2, three-3, three-4, three-5, three-6, three-all}
+use Rattle.records.specs.Records.{threeRowOf}
+use Rattle.records.specs.Records.Rows.{three-1, three-2, three-3, three-4, three-5, three-6, three-all}
 use borrow.Author.Needs.{needs}
 use Rattle.records.proofs.read_three.Statement.{statement}
 use Rattle.records.proofs.read_three.Tie as tie

@@ -1,4 +1,4 @@
--- How a row follows from its fields, and how the answers of the calls say it.
+-- How a row follows from its fields.
 use Prim.Native.Nat.{ℕ, _<_, _≤_, _^_}
 use mathlib.Core.Path.{_≡_, refl, ap, sym, _∙_, subst}
 use mathlib.Core.List.{List}
@@ -7,19 +7,20 @@ use native.Mathlib.Omega.{arith}
 use lib.Dec.{ltb}
 use borrow.Author.Tests.{ltb-true}
 use Rattle.truth.specs.Truth.Bools.{by-split}
-use Rattle.lex.specs.Lex.{lastAt, partOf, Members, members, none, membersOf, heldOf}
-use Rattle.lex.specs.declared.Listed.{Listed}
-use Rattle.lex.specs.declared.Listed.the-variants as listed
+use Rattle.scan.specs.Scan.{partOf, Members, members, none, membersOf, heldOf}
+use Rattle.lex.specs.Lex.{lastAt}
+use Rattle.scan.specs.declared.Listed.{Listed}
+use Rattle.scan.specs.declared.Listed.the-variants as listed
 use Rattle.lex.specs.declared.Piece.{Piece}
 use Rattle.lex.specs.declared.Piece.the-variants.{Part, NoPart}
 use Rattle.truth.specs.Truth.Tests.{says-true}
 use Rattle.graph.specs.Graph.{sizeOf, Ranges}
 use Rattle.graph.specs.Judge.{rangeTest}
 use Rattle.graph.specs.Judge.Laws.{range?}
-use Rattle.records.specs.declared.Form.{Form}
-use Rattle.records.specs.declared.Form.the-variants.{Tag, Number, Own, Kind, Check, Marks, Way, Empty}
-use Rattle.records.specs.declared.Found.{Found}
-use Rattle.records.specs.declared.Found.the-variants.{At, Wrong}
+use Rattle.fields.specs.declared.Form.{Form}
+use Rattle.fields.specs.declared.Form.the-variants.{Tag, Number, Own, Kind, Check, Marks, Way, Empty}
+use Rattle.fields.specs.declared.Found.{Found}
+use Rattle.fields.specs.declared.Found.the-variants.{At, Wrong}
 use Rattle.records.specs.declared.Granted.{Granted}
 use Rattle.records.specs.declared.Granted.the-variants as granted
 use Rattle.records.specs.declared.Lead.{Lead}
@@ -37,35 +38,9 @@ use Rattle.records.specs.declared.EdgeRow.the-variants as edge
 use Rattle.graph.specs.declared.Size.{Size}
 use Rattle.records.specs.declared.Header.{Header}
 use Rattle.records.specs.declared.Header.the-variants as header
-use Rattle.records.specs.Records.Forms.{Below, number, check, kind, marks, form-below}
-use Rattle.records.specs.Records.{formAt, endAt, Got, got, no, onMembers, grantsBy, grantsAt, threeAt, headerAt, leadAt, nodeOf, nodeAt, edgeAt, kept}
-
--- ---- the answers
-
-abbrev pub grantedOf : Got ℕ → Granted
-grantedOf (got x next) = cond (ltb x (2 ^ 64)) (granted.Held x next) (granted.Beyond next)
-grantedOf no = granted.Wrong
-
-abbrev pub leadRowOf : Got Lead → LeadRow
-leadRowOf (got x next) = lead.At x next
-leadRowOf no = lead.Wrong
-
--- a node is handed on as it is kept
-abbrev pub nodeRowOf : Got Node → NodeRow
-nodeRowOf (got x next) = node.At (kept x) next
-nodeRowOf no = node.Wrong
-
-abbrev pub threeRowOf : Got Three → ThreeRow
-threeRowOf (got x next) = three.At x next
-threeRowOf no = three.Wrong
-
-abbrev pub edgeRowOf : Got Edge → EdgeRow
-edgeRowOf (got x next) = edge.At x next
-edgeRowOf no = edge.Wrong
-
-abbrev pub headerOf : Got Size → Header
-headerOf (got x next) = header.At x next
-headerOf no = header.Wrong
+use Rattle.fields.specs.Fields.Forms.{Below, number, check, kind, marks, form-below}
+use Rattle.fields.specs.Fields.{formAt, endAt}
+use Rattle.records.specs.Records.{Got, got, no, onMembers, grantsBy, grantsAt, threeAt, headerAt, leadAt, nodeOf, nodeAt, edgeAt, kept, grantedOf, leadRowOf, nodeRowOf, threeRowOf, edgeRowOf, headerOf}
 
 -- ---- grants
 

@@ -3,10 +3,12 @@ use Prim.Native.Nat.{ℕ}
 use mathlib.Core.Path.{_≡_, refl}
 use mathlib.Core.List.{List, [], _∷_}
 use Rattle.graph.specs.Graph.Gateway.{gateway}
-use Rattle.lex.specs.Lex.{run, followed, quotedAt, plainAt, fieldAt, commaAt, lastAt, digitsFrom, numberOf, words, ascending, membersOf}
+use Rattle.scan.specs.Scan.{run, digitsFrom, numberOf, words, ascending, membersOf}
+use Rattle.lex.specs.Lex.{followed, quotedAt, plainAt, fieldAt, commaAt, lastAt}
 use Rattle.records.specs.declared.Node.{Node}
 use Rattle.records.specs.declared.Edge.{Edge}
-use Rattle.records.specs.Records.{says, formAt, endAt, grantsAt, threeAt, headerAt, leadAt, nodeAt, edgeAt}
+use Rattle.fields.specs.Fields.{says, formAt, endAt}
+use Rattle.records.specs.Records.{grantsAt, threeAt, headerAt, leadAt, nodeAt, edgeAt}
 use Rattle.text.specs.Text.{rowsAt, textAt, graphFrom}
 use Rattle.text.specs.Text as text
 

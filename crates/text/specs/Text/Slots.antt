@@ -13,8 +13,7 @@ use Rattle.records.specs.declared.NodeRow.the-variants as node
 use Rattle.records.specs.declared.Edge.{Edge}
 use Rattle.records.specs.declared.EdgeRow.{EdgeRow}
 use Rattle.records.specs.declared.EdgeRow.the-variants as edge
-use Rattle.records.specs.Records.{Got, got, no, onGot, kept}
-use Rattle.records.specs.Records.Rows.{nodeRowOf, edgeRowOf}
+use Rattle.records.specs.Records.{Got, got, no, onGot, kept, nodeRowOf, edgeRowOf}
 use Rattle.text.specs.declared.Ran.{Ran}
 use Rattle.text.specs.declared.Ran.the-variants.{Past, Stop}
 use Rattle.text.specs.Text.Parts.{rowsFrom, endFrom}

@@ -65,13 +65,25 @@ impl Refusal {
     }
 }
 
-// The kinds of an edge, by number.
+// The kinds of a node.
+pub const KIND_CALL: u8 = 0;
+
+pub const KIND_RETURN: u8 = 1;
+
+pub const KIND_CHECK: u8 = 2;
+
+// The kinds of an edge.
 pub const CALL: u8 = 0;
 
 pub const TRANSFER: u8 = 1;
 
-// The kinds of a node, by number.
-pub const KIND_CHECK: u8 = 2;
+// A privileged mark or an entry mark that is there; 0 where it is not.
+pub const MARKED: u8 = 1;
+
+// How many nodes and edges a graph may have; `Set::LIMIT` says how many permissions.
+pub const MOST_NODES: usize = 1024;
+
+pub const MOST_EDGES: usize = 4096;
 
 // How many permissions, nodes and edges there are.
 pub struct Size {

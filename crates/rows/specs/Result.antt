@@ -1,15 +1,15 @@
--- The bytes that a result is printed as, and what the calls that write them promise. Definitions alone. 44 is the comma, 32 the space, 13 CR, 10 LF.
-pub mod Pieces
+-- The bytes that a result is printed as, and what the calls that write them promise. Definitions alone. 44 is the comma, 13 CR, 10 LF.
+pub mod Rows
 pub mod Calls
-use Prim.Native.Nat.{ℕ, zero, suc, _+_, _/_, _%_, _≤_}
+use Prim.Native.Nat.{ℕ, zero, suc, _+_, _≤_}
 use mathlib.Core.Path.{_≡_}
 use mathlib.Core.List.{List, [], _∷_, _++_}
-use mathlib.Core.Bool.{Bool, true, false, cond}
+use mathlib.Core.Bool.{cond}
 use lib.ListN.{length, getD}
 use lib.Seq.{sets}
-use lib.Dec.{eqb, ltb}
-use Rattle.io.specs.Digits.{glyph}
+use lib.Dec.{eqb}
 use Rattle.sets.specs.Sets.{has}
+use Rattle.writer.specs.Writer.{decimal, setBytes}
 use Rattle.graph.specs.Graph.{verdictOf}
 use Rattle.graph.specs.Refusals.{numbered}
 use Rattle.graph.specs.declared.Refusal.{Refusal}
@@ -17,38 +17,11 @@ use Rattle.graph.specs.declared.Refusal.the-variants as why
 use Rattle.rows.specs.declared.Written.{Written}
 use Rattle.rows.specs.declared.Written.the-variants.{Bytes, Refused}
 
--- ---- Bytes
-
--- A number in decimal; 20 digits hold every number of 64 bits.
-unfoldable pub decimalBy : (most n : ℕ) → List ℕ
-decimalBy zero n = []
-decimalBy (suc most) n = cond (ltb n 10) (glyph n ∷ []) (decimalBy most (n / 10) ++ (glyph (n % 10) ∷ []))
-
-abbrev pub decimal : ℕ → List ℕ
-decimal = decimalBy 20
-
--- The members of a set from p on, so many numbers looked at, lowest first.
-unfoldable pub membersFrom : (set p count : ℕ) → List ℕ
-membersFrom set p zero = []
-membersFrom set p (suc count) = cond (has set p) (p ∷ membersFrom set (p + 1) count) (membersFrom set (p + 1) count)
-
--- Numbers with one space between.
-unfoldable pub afterFirst : List ℕ → List ℕ
-afterFirst [] = []
-afterFirst (p ∷ ps) = 32 ∷ decimal p ++ afterFirst ps
-
-abbrev pub spaced : List ℕ → List ℕ
-spaced [] = []
-spaced (p ∷ ps) = decimal p ++ afterFirst ps
-
-abbrev pub setBytes : ℕ → List ℕ
-setBytes set = spaced (membersFrom set 0 64)
+-- ---- Rows
 
 -- The verdict of a check (kind 2); empty at any other node.
 abbrev pub verdictBytes : (kind check denied granted : ℕ) → List ℕ
 verdictBytes kind check denied granted = cond (eqb kind 2) (decimal (verdictOf (has denied check) (has granted check))) []
-
--- ---- Rows
 
 abbrev pub rowBytes : (node kind check denied granted : ℕ) → List ℕ
 rowBytes node kind check denied granted =

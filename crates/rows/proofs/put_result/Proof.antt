@@ -1,5 +1,5 @@
 use native.Mathlib.Omega.{arith}
-use Rattle.rows.specs.Result.Pieces.{puts-then}
+use Rattle.writer.specs.Writer.Places.{puts-then}
 use borrow.Author.Needs.{needs}
 use Rattle.rows.proofs.put_result.Statement.{statement}
 use Rattle.rows.proofs.put_result.Tie as tie
@@ -11,13 +11,17 @@ put-all-requires : tie.Need-put-all-requires
 put-all-requires c κs = search needs
 
 put-rows-requires : tie.Need-put-rows-requires
-put-rows-requires c κs = (omega (arith, c .before .before .before .put-all .ensures .answer), c .before .before .before .before .before .before .before .before .before .before .before .pre)
+put-rows-requires c κs = search needs
 
 same-length : tie.Need-same-length
 same-length c = search needs
 
 returns : tie.Need-returns
-returns c = puts-then (c .before .before .before .before .before .before .put-all .ensures) (c .before .before .put-rows .ensures)
+returns c =
+    let rows = c .before .before in
+    let header = rows .before .before .before .before in
+    let start = header .before .before .before .before .before .before .before .before in
+    puts-then (omega (arith, start .good .0 .0)) (header .put-all .ensures) (rows .put-rows .ensures)
 
 pub put-result-spec : {M : Type 1} → statement M
 put-result-spec =

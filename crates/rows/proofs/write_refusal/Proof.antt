@@ -1,6 +1,7 @@
+-- The row is counted first, and written where there is room for it.
 use mathlib.Core.Path.{ap, _∙_}
 use lib.ListN.{length}
-use Rattle.rows.specs.Result.Pieces.{puts-as}
+use Rattle.writer.specs.Writer.Places.{puts-as}
 use Rattle.rows.specs.Result.Calls.{writes-none, writes-all, refusal-is}
 use borrow.Author.Needs.{needs}
 use Rattle.rows.proofs.write_refusal.Statement.{statement}
@@ -16,7 +17,12 @@ count-refusal-requires : tie.Need-count-refusal-requires
 count-refusal-requires c κs = search needs
 
 returns : tie.Need-returns
-returns c = writes-none (c .before .count-refusal .ensures ∙ ap length (refusal-is (c .before .before .before .before .before .args .why) (c .before .before .before .number .ensures) (c .before .before .place .ensures))) (c .if1 .taken)
+returns c =
+    let counted = c .before in
+    let place = counted .before in
+    let number = place .before in
+    let row = refusal-is (number .before .before .args .why) (number .number .ensures) (place .place .ensures) in
+    writes-none (counted .count-refusal .ensures ∙ ap length row) (c .if1 .taken)
 
 put-refusal-requires : tie.Need-put-refusal-requires
 put-refusal-requires c κs = search needs
@@ -26,8 +32,13 @@ same-length c = search needs
 
 returns-2 : tie.Need-returns-2
 returns-2 c =
-    let e = refusal-is (c .before .before .before .before .before .before .before .before .before .args .why) (c .before .before .before .before .before .before .before .number .ensures) (c .before .before .before .before .before .before .place .ensures) in
-    writes-all (c .before .before .before .before .before .count-refusal .ensures ∙ ap length e) (c .before .before .before .before .if1 .left) (puts-as e (c .before .before .put-refusal .ensures))
+    let put = c .before .before in
+    let test = put .before .before in
+    let counted = test .before in
+    let place = counted .before in
+    let number = place .before in
+    let row = refusal-is (number .before .before .args .why) (number .number .ensures) (place .place .ensures) in
+    writes-all (counted .count-refusal .ensures ∙ ap length row) (test .if1 .left) (puts-as row (put .put-refusal .ensures))
 
 pub write-refusal-spec : {M : Type 1} → statement M
 write-refusal-spec =

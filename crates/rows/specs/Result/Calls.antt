@@ -11,7 +11,8 @@ use Rattle.graph.specs.declared.Refusal.the-variants as why
 use Rattle.rows.specs.declared.Written.{Written}
 use Rattle.rows.specs.declared.Written.the-variants.{Bytes, Refused}
 use Rattle.rows.specs.Result.{refusalRow, refusalBytes, Long, Writes, written, too-short, WritesResult, shape, result}
-use Rattle.rows.specs.Result.Pieces.{Puts}
+use Rattle.writer.specs.Writer.{lastPlace, Puts}
+use Rattle.writer.specs.Writer.Places.{puts-count}
 
 module _ {bytes before : List ℕ} {count : ℕ} (e : count ≡ length bytes) where
   pub writes-none : length before < count → Writes bytes before (Refused why.NoRoom) before
@@ -22,8 +23,8 @@ module _ {bytes before : List ℕ} {count : ℕ} (e : count ≡ length bytes) wh
       subst (λ (l : List ℕ). Writes bytes before (Bytes count) l) (sym (p .content)) (subst (λ (n : ℕ). Writes bytes before (Bytes n) (sets before 0 bytes)) (sym e) (written (omega (arith, e, h))))
 
 -- bytes that were written to a buffer with room for more
-pub writes-close : {bytes before after : List ℕ} {r most : ℕ} → Puts bytes before 0 r after → most ≤ length before → length bytes ≤ most → Writes bytes before (Bytes r) after
-writes-close p h k = let e = p .answer in writes-all (omega (arith, e)) (omega (arith, e, h, k)) p
+pub writes-close : {bytes before after : List ℕ} {r most : ℕ} → Puts bytes before 0 r after → most ≤ length before → length bytes ≤ most → most ≤ lastPlace → Writes bytes before (Bytes r) after
+writes-close p h k l = let e = puts-count p (omega (arith, k, l)) in writes-all e (omega (arith, e, h, k)) p
 
 pub refusal-is : {number place : ℕ} (r : Refusal) → number ≡ numbered r .number → place ≡ numbered r .place → refusalRow number place ≡ refusalBytes r
 refusal-is {number} {place} r a b = ap (λ n. refusalRow n place) a ∙ ap (refusalRow (numbered r .number)) b

@@ -73,6 +73,14 @@ pub const TRANSFER: u8 = 1;
 // The kinds of a node, by number.
 pub const KIND_CHECK: u8 = 2;
 
+// A node that is marked privileged, or an entry.
+pub const MARKED: u8 = 1;
+
+// How many nodes and edges there may be.
+pub const MOST_NODES: usize = 1024;
+
+pub const MOST_EDGES: usize = 4096;
+
 // How many permissions, nodes and edges there are.
 pub struct Size {
     pub k: usize,

@@ -1,12 +1,10 @@
 -- The solver's walk, for both systems: what it computes from the running sums of the nodes, and what holds of them on the way.
 -- A node has two running sums: of all that arrives, in the list s, and of what arrives and passes its check, in the list q.
-pub mod Filled
-pub mod Links
 pub mod Order
 pub mod Sent
 pub mod Sums
 pub mod Settled
-pub mod Stack
+pub mod Left
 pub mod Steps
 pub mod Taken
 pub mod Stored
@@ -20,6 +18,7 @@ use Rattle.sets.specs.Sets.{has, empty, all, join, common, without, add}
 use mathlib.Core.Logic.{_↔_}
 use Rattle.graph.specs.Graph.{Graph, isCheck, check, Acceptable, System, may, sure, Outs, Arrival, arriving, inSet, pastSet, outSet, Within, held}
 use Rattle.graph.specs.Graph.Arrivals.{Arrives}
+use Rattle.worklist.specs.Worklist.{fresh, Stacked}
 
 -- ---- numbers
 
@@ -121,10 +120,6 @@ changes y s b v = not (eqb (merge y (getD s b 0) v) (getD s b 0))
 abbrev pub changed : System → (s q : List ℕ) (b v : ℕ) (counted : Bool) → Bool
 changed y s q b v counted = changes y s b v || (counted && changes y q b v)
 
--- node b goes on the stack where its sums changed and it is not on it
-abbrev pub fresh : (d st : List ℕ) (top b : ℕ) (changed : Bool) → Bool
-fresh d st top b changed = changed && (eqb (getD d b 0) 0 && ltb top (length st))
-
 unfoldable pub push : (s q d st : List ℕ) (top b : ℕ) (new : Bool) → State
 push s q d st top b true = state s q (set d b 1) (set st top b) (top + 1)
 push s q d st top b false = state s q d st top
@@ -145,43 +140,61 @@ module _ (kinds checks grants tos ways : List ℕ) (y : System) (w prev : List �
   sendFrom (suc f) zero x = x
   sendFrom (suc f) (suc e) x = sendFrom f (getD prev e 0) (arrive y x (getD tos e 0) (sent e) (countsBy kinds checks tos y w e (sent e)))
 
--- the lists of edges: one more than the last edge below i that leaves n, 0 where there is none
-unfoldable pub last : (froms : List ℕ) (n i : ℕ) → ℕ
-last froms n zero = 0
-last froms n (suc i) = cond (eqb (getD froms i 0) n) (suc i) (last froms n i)
-
-pub record Linked (froms : List ℕ) (nodes : ℕ) (head prev : List ℕ) (i : ℕ) : Type 0 where
-  pub heads : (n : ℕ) → n < nodes → getD head n 0 ≡ last froms n i
-  pub prevs : (e : ℕ) → e < i → getD prev e 0 ≡ last froms (getD froms e 0) e
-
 -- what sending needs of the slices: they are long enough, edges end at nodes, and lists of edges lead down
-pub record Sendable (kinds checks grants tos ways : List ℕ) (y : System) (w prev ins past marks : List ℕ) : Type 0 where
+pub record Sendable (kinds checks grants tos ways w prev : List ℕ) (ins past : ℕ) : Type 0 where
   pub checks-long : length kinds ≤ length checks
   pub grants-long : length kinds ≤ length grants
   pub ways-long : length tos ≤ length ways
   pub wide-long : length tos ≤ length w
   pub prev-long : length tos ≤ length prev
-  pub ins-long : length kinds ≤ length ins
-  pub past-long : length kinds ≤ length past
-  pub marks-long : length kinds ≤ length marks
+  pub ins-long : length kinds ≤ ins
+  pub past-long : length kinds ≤ past
   pub ends : (e : ℕ) → e < length tos → getD tos e 0 < length kinds
   pub down : (e : ℕ) → e < length tos → getD prev e 0 ≤ e
 
+-- what one edge needs of them
+pub record Bringable (kinds checks grants tos ways w : List ℕ) (e : ℕ) : Type 0 where
+  pub own : e < length tos
+  pub way : e < length ways
+  pub wide : e < length w
+  pub kind : getD tos e 0 < length kinds
+  pub check : getD tos e 0 < length checks
+  pub grant : getD tos e 0 < length grants
+
 -- what each of the walk's functions does with its slices
+
+-- edge e brings the set v to node b, from a node with the call set c and the trans set t
+pub record Brings (kinds checks grants tos ways : List ℕ) (y : System) (w : List ℕ) (c t e b v : ℕ) (counted : Bool) : Type 0 where
+  pub to : b ≡ getD tos e 0
+  pub set-sent : v ≡ edgeNum (getD ways e 0) c t (getD grants (getD tos e 0) 0)
+  pub counts-so : counted ≡ countsBy kinds checks tos y w e v
+
+pub record Merged (y : System) (s : List ℕ) (b v : ℕ) (s′ : List ℕ) (r : Bool) : Type 0 where
+  pub sums : s′ ≡ into y s b v
+  pub told : r ≡ changes y s b v
 
 pub record Delivered (y : System) (s q : List ℕ) (b v : ℕ) (counted : Bool) (s′ q′ : List ℕ) (r : Bool) : Type 0 where
   pub ins : s′ ≡ into y s b v
   pub past : q′ ≡ cond counted (into y q b v) q
   pub told : r ≡ changed y s q b v counted
 
-pub record Put (d st : List ℕ) (top b : ℕ) (new : Bool) (d′ st′ : List ℕ) (top′ : ℕ) : Type 0 where
-  pub marks : d′ ≡ cond new (set d b 1) d
-  pub stack : st′ ≡ cond new (set st top b) st
-  pub height : top′ ≡ cond new (top + 1) top
-
 pub record Begun (y : System) (k n : ℕ) (checks entries grants s q : List ℕ) : Type 0 where
   pub ins : (i : ℕ) → i < n → getD s i 0 ≡ startIns y k (getD entries i 0) (getD grants i 0)
   pub past : (i : ℕ) → i < n → getD q i 0 ≡ startPast y k (getD entries i 0) (getD grants i 0) (getD checks i 0)
+
+-- what one edge's out set needs of the slices
+pub record Carriable (kinds checks privileged grants froms tos ways a s q : List ℕ) (e : ℕ) : Type 0 where
+  pub from : e < length froms
+  pub to : e < length tos
+  pub way : e < length ways
+  pub kind : getD froms e 0 < length kinds
+  pub check : getD froms e 0 < length checks
+  pub mark : getD froms e 0 < length privileged
+  pub grant : getD froms e 0 < length grants
+  pub any : getD froms e 0 < length a
+  pub ins : getD froms e 0 < length s
+  pub past : getD froms e 0 < length q
+  pub into-grant : getD tos e 0 < length grants
 
 pub record Storable (n m out : ℕ) (kinds checks privileged grants froms tos ways a s q : List ℕ) : Type 0 where
   pub out-long : m ≤ out
@@ -251,18 +264,6 @@ pub record Quiet (g : Graph) (y : System) (w a s q : List ℕ) (e : ℕ) : Type 
 pub record Pending (g : Graph) (y : System) (w a s q d : List ℕ) : Type 0 where
   pub good : Good g y w s q
   pub quiet : (e : ℕ) → e < g .size .m → getD d (fromOf g e) 0 ≡ 0 → Quiet g y w a s q e
-
--- ---- the stack
-
-unfoldable pub zeros : List ℕ → ℕ
-zeros [] = 0
-zeros (x ∷ d) = cond (eqb x 0) 1 0 + zeros d
-
--- the stack has room for every node that is not marked, holds nodes, and holds every node that is marked
-pub record Stacked (nodes : ℕ) (d st : List ℕ) (top : ℕ) : Type 0 where
-  pub free : zeros d + top ≤ length st
-  pub entries : (j : ℕ) → j < top → getD st j 0 < nodes
-  pub marked : (n : ℕ) → n < nodes → (getD d n 0 ≡ 0 → ⊥) → (j : ℕ) × (j < top) × (getD st j 0 ≡ n)
 
 -- ---- what is left to do
 

@@ -30,7 +30,7 @@ pub fn start(sure: bool, k: usize) -> u64
 pub fn called(privileged: u8, grants: u64, arrived: u64) -> u64
     ensures { λ r. ⌜ r ≡ callNum privileged grants arrived ⌝ }
 {
-    if privileged == 1 {
+    if privileged == graph::MARKED {
         return grants;
     }
     arrived
@@ -55,10 +55,10 @@ pub fn passed(sure: bool, check: u16, past: u64, any: u64) -> u64
 pub fn moved(kind: u8, check: u16, privileged: u8, grants: u64, arrived: u64, past: u64) -> u64
     ensures { λ r. ⌜ r ≡ transNum kind check privileged grants arrived past ⌝ }
 {
-    if kind != 2 {
+    if kind != graph::KIND_CHECK {
         return arrived;
     }
-    if privileged != 1 {
+    if privileged != graph::MARKED {
         return past;
     }
     let own = Set { bits: grants };
@@ -72,7 +72,7 @@ pub fn moved(kind: u8, check: u16, privileged: u8, grants: u64, arrived: u64, pa
 pub fn carry(way: u8, called: u64, moved: u64, into: u64) -> u64
     ensures { λ r. ⌜ r ≡ edgeNum way called moved into ⌝ }
 {
-    if way == 0 {
+    if way == graph::CALL {
         return Set { bits: called }.common(Set { bits: into }).bits;
     }
     moved
@@ -82,7 +82,7 @@ pub fn carry(way: u8, called: u64, moved: u64, into: u64) -> u64
 pub fn counts(kind: u8, check: u16, by: u64) -> bool
     ensures { λ r. ⌜ r ≡ (eqb kind 2 && has by check) ⌝ }
 {
-    if kind != 2 {
+    if kind != graph::KIND_CHECK {
         return false;
     }
     Set { bits: by }.has(check as usize)
@@ -91,7 +91,7 @@ pub fn counts(kind: u8, check: u16, by: u64) -> bool
 pub fn first_sum(sure: bool, k: usize, entry: u8, grants: u64) -> u64
     ensures { λ r. ⌜ r ≡ startIns (systemOf sure) k entry grants ⌝ }
 {
-    if entry == 1 {
+    if entry == graph::MARKED {
         return grants;
     }
     start(sure, k)
@@ -101,7 +101,7 @@ pub fn first_passing(sure: bool, k: usize, entry: u8, grants: u64, check: u16) -
     ensures { λ r. ⌜ r ≡ startPast (systemOf sure) k entry grants check ⌝ }
 {
     let own = Set { bits: grants };
-    if entry == 1 {
+    if entry == graph::MARKED {
         if own.has(check as usize) {
             return grants;
         }

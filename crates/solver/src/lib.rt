@@ -4,12 +4,15 @@ use graph::Refusal;
 use graph::Size;
 use sets::Set;
 ghost use mathlib.Core.Path.{_≡_};
-ghost use mathlib.Core.Bool.{true, false};
+ghost use mathlib.Core.Bool.{true, false, _&&_};
+ghost use lib.Dec.{eqb};
 ghost use Prim.Native.Nat.{ℕ, _+_, _-_, _≤_, _<_};
 ghost use lib.ListN.{length, getD};
 ghost use Rattle.truth.specs.Truth.{Says};
+ghost use Rattle.sets.specs.Sets.{has};
 ghost use Rattle.graph.specs.Graph.{graphOf, sizeOf, Acceptable, Content};
-ghost use Rattle.flow.specs.Walk.{systemOf, judgedNum, movedBy, carriedBy, state, fresh, sendFrom, Linked, Sendable, Delivered, Put, Begun, Storable, NodesStored, Setting, Walking};
+ghost use Rattle.worklist.specs.Worklist.{Linked};
+ghost use Rattle.flow.specs.Walk.{systemOf, judgedNum, calledBy, movedBy, carriedBy, state, arrive, sendFrom, Bringable, Brings, Sendable, Merged, Delivered, Begun, Carriable, Storable, NodesStored, Setting, Walking};
 ghost use Rattle.flow.specs.Walk.Settled.{Settled};
 ghost use Rattle.solver.specs.Solve.{slices, ResultsLong, Solves};
 
@@ -24,43 +27,95 @@ fn judged(sure: bool, wide: &[u64], e: usize, v: u64) -> u64
     v
 }
 
+// Whether the set v of edge e counts at the node that it arrives at. Most nodes are no checks, and there `wide` is not read.
+fn counts_at(sure: bool, wide: &[u64], e: usize, v: u64, kind: u8, check: u16) -> bool
+    requires { ⌜ e < length (now wide) ⌝ }
+    ensures { λ r. ⌜ r ≡ (eqb kind 2 && has (judgedNum (systemOf sure) (getD (now (wide .entry)) e 0) v) check) ⌝ }
+{
+    if kind != graph::KIND_CHECK {
+        return false;
+    }
+    let by = judged(sure, wide, e, v);
+    flow::counts(kind, check, by)
+}
+
+// A set arrives in a sum of node b. Whether that changed the sum.
+fn merge_at(sums: &mut [u64], sure: bool, b: usize, v: u64) -> bool
+    requires { ⌜ b < length (now sums) ⌝ }
+    ensures { λ r. ⌜ Merged (systemOf sure) (now (sums .entry)) b v (now (sums .exit)) r ⌝ }
+{
+    let sum = sums[b];
+    let more = flow::merge(sure, sum, v);
+    if more == sum {
+        return false;
+    }
+    sums[b] = more;
+    true
+}
+
 // A set arrives at node b, and counts there or not. Whether a sum of the node changed.
 fn deliver(ins: &mut [u64], past: &mut [u64], sure: bool, b: usize, v: u64, counted: bool) -> bool
     requires { ⌜ (b < length (now ins)) × (b < length (now past)) ⌝ }
     ensures { λ r. ⌜ Delivered (systemOf sure) (now (ins .entry)) (now (past .entry)) b v counted (now (ins .exit)) (now (past .exit)) r ⌝ }
 {
-    let sum = ins[b];
-    let more = flow::merge(sure, sum, v);
-    ins[b] = more;
+    let more = merge_at(ins, sure, b, v);
     if !counted {
-        return more != sum;
+        return more;
     }
-    let passing = past[b];
-    let after = flow::merge(sure, passing, v);
-    past[b] = after;
-    if more != sum {
-        return true;
-    }
-    after != passing
+    let passing = merge_at(past, sure, b, v);
+    more | passing
 }
 
-// Node b goes on the stack where its sums changed and it is not there. The stack's new height.
-fn put(marks: &mut [u8], stack: &mut [u16], b: usize, changed: bool, top: usize) -> usize
-    requires { ⌜ (b < length (now marks)) × (b < 65536) ⌝ }
-    ensures { λ r. ⌜ Put (now (marks .entry)) (now (stack .entry)) top b (fresh (now (marks .entry)) (now (stack .entry)) top b changed) (now (marks .exit)) (now (stack .exit)) r ⌝ }
+// What an edge brings: to which node, which set, and whether it counts there.
+struct Brought {
+    to: usize,
+    set: u64,
+    counted: bool,
+}
+
+// What edge e brings from a node with the call set `call` and the trans set `trans`.
+fn bring(
+    sure: bool,
+    call: u64,
+    trans: u64,
+    e: usize,
+    kinds: &[u8],
+    checks: &[u16],
+    grants: &[u64],
+    tos: &[u16],
+    ways: &[u8],
+    wide: &[u64],
+) -> Brought
+    requires { ⌜ Bringable (now kinds) (now checks) (now grants) (now tos) (now ways) (now wide) e ⌝ }
+    ensures { λ r. ⌜ Brings (now (kinds .entry)) (now (checks .entry)) (now (grants .entry)) (now (tos .entry)) (now (ways .entry)) (systemOf sure) (now (wide .entry)) call trans e (r .to) (r .set) (r .counted) ⌝ }
 {
-    if !changed {
-        return top;
+    let to = tos[e] as usize;
+    let set = flow::carry(ways[e], call, trans, grants[to]);
+    let counted = counts_at(sure, wide, e, set, kinds[to], checks[to]);
+    Brought {
+        to: to,
+        set: set,
+        counted: counted,
     }
-    if marks[b] != 0 {
-        return top;
-    }
-    if stack.len() <= top {
-        return top;
-    }
-    marks[b] = 1;
-    stack[top] = b as u16;
-    top + 1
+}
+
+// A set arrives at node b, which goes on the stack where that changed a sum of it. The stack's new height.
+fn arrive(
+    ins: &mut [u64],
+    past: &mut [u64],
+    marks: &mut [u8],
+    stack: &mut [u16],
+    sure: bool,
+    b: usize,
+    v: u64,
+    counted: bool,
+    top: usize,
+) -> usize
+    requires { ⌜ (b < length (now ins)) × (b < length (now past)) ⌝ }
+    ensures { λ r. ⌜ state (now (ins .exit)) (now (past .exit)) (now (marks .exit)) (now (stack .exit)) r ≡ arrive (systemOf sure) (state (now (ins .entry)) (now (past .entry)) (now (marks .entry)) (now (stack .entry)) top) b v counted ⌝ }
+{
+    let changed = deliver(ins, past, sure, b, v, counted);
+    worklist::put(marks, stack, b, changed, top)
 }
 
 // What a node's call and trans sets bring to the nodes at the other ends of its edges, which start before `first`. The stack's new height.
@@ -82,52 +137,19 @@ fn send(
     wide: &[u64],
     prev: &[u16],
 ) -> usize
-    requires { ⌜ Sendable (now kinds) (now checks) (now grants) (now tos) (now ways) (systemOf sure) (now wide) (now prev) (now ins) (now past) (now marks) ⌝ }
+    requires { ⌜ Sendable (now kinds) (now checks) (now grants) (now tos) (now ways) (now wide) (now prev) (length (now ins)) (length (now past)) ⌝ }
     requires { ⌜ first ≤ length (now tos) ⌝ }
     ensures { λ r. ⌜ state (now (ins .exit)) (now (past .exit)) (now (marks .exit)) (now (stack .exit)) r ≡ sendFrom (now (kinds .entry)) (now (checks .entry)) (now (grants .entry)) (now (tos .entry)) (now (ways .entry)) (systemOf sure) (now (wide .entry)) (now (prev .entry)) call trans first first (state (now (ins .entry)) (now (past .entry)) (now (marks .entry)) (now (stack .entry)) top) ⌝ }
 {
     let mut t = top;
-    let mut cur = first;
+    let mut cur = first as usize;
     while cur != 0 {
-        let e = (cur - 1) as usize;
-        let b = tos[e] as usize;
-        let v = flow::carry(ways[e], call, trans, grants[b]);
-        let by = judged(sure, wide, e, v);
-        let counted = flow::counts(kinds[b], checks[b], by);
-        let changed = deliver(ins, past, sure, b, v, counted);
-        t = put(marks, stack, b, changed, t);
-        cur = prev[e];
+        let e = cur - 1;
+        let x = bring(sure, call, trans, e, kinds, checks, grants, tos, ways, wide);
+        t = arrive(ins, past, marks, stack, sure, x.to, x.set, x.counted, t);
+        cur = prev[e] as usize;
     }
     t
-}
-
-// The edges that leave each node, as lists that start at head and go on by prev, from the last to the first: one more than an edge's
-// number, and 0 at the end.
-fn link(head: &mut [u16], prev: &mut [u16], n: usize, m: usize, froms: &[u16])
-    requires { ⌜ (length (now froms) ≡ m) × (m < 65535) × (m ≤ length (now prev)) × (n ≤ length (now head)) ⌝ }
-    requires { ⌜ ((e : ℕ) → e < m → getD (now froms) e 0 < n) ⌝ }
-    requires { ⌜ ((i : ℕ) → i < n → getD (now head) i 0 ≡ 0) ⌝ }
-    ensures { λ r. ⌜ Linked (now (froms .entry)) n (now (head .exit)) (now (prev .exit)) m ⌝ }
-{
-    let mut e = 0;
-    while e < m {
-        let i = froms[e] as usize;
-        prev[e] = head[i];
-        head[i] = (e + 1) as u16;
-        e += 1;
-    }
-}
-
-// Every node goes on the stack, the first on top: what calls stands before what is called in most graphs, and is then taken up first.
-fn fill(stack: &mut [u16], n: usize)
-    requires { ⌜ (n ≤ length (now stack)) × (n < 65536) ⌝ }
-    ensures { λ r. ⌜ ((i : ℕ) → i < n → getD (now (stack .exit)) i 0 ≡ n - 1 - i) ⌝ }
-{
-    let mut i = 0;
-    while i < n {
-        stack[i] = (n - 1 - i) as u16;
-        i += 1;
-    }
 }
 
 // The sums of all nodes before anything but the entry marks arrives.
@@ -146,8 +168,10 @@ fn begin(
 {
     let mut i = 0;
     while i < n {
-        ins[i] = flow::first_sum(sure, k, entries[i], grants[i]);
-        past[i] = flow::first_passing(sure, k, entries[i], grants[i], checks[i]);
+        let entry = entries[i];
+        let own = grants[i];
+        ins[i] = flow::first_sum(sure, k, entry, own);
+        past[i] = flow::first_passing(sure, k, entry, own, checks[i]);
         i += 1;
     }
 }
@@ -168,7 +192,7 @@ fn trans_at(
     requires { ⌜ (i < length (now any)) × (i < length (now ins)) × (i < length (now past)) ⌝ }
     ensures { λ r. ⌜ r ≡ movedBy (now (kinds .entry)) (now (checks .entry)) (now (privileged .entry)) (now (grants .entry)) (systemOf sure) (now (any .entry)) (now (ins .entry)) (now (past .entry)) i ⌝ }
 {
-    if kinds[i] != 2 {
+    if kinds[i] != graph::KIND_CHECK {
         return ins[i];
     }
     let beyond = flow::passed(sure, checks[i], past[i], any[i]);
@@ -180,6 +204,59 @@ fn trans_at(
         ins[i],
         beyond,
     )
+}
+
+// What leaves a node: its call set and its trans set.
+struct Leaving {
+    call: u64,
+    trans: u64,
+}
+
+fn leave(
+    sure: bool,
+    i: usize,
+    kinds: &[u8],
+    checks: &[u16],
+    privileged: &[u8],
+    grants: &[u64],
+    any: &[u64],
+    ins: &[u64],
+    past: &[u64],
+) -> Leaving
+    requires { ⌜ (i < length (now kinds)) × (i < length (now checks)) × (i < length (now privileged)) × (i < length (now grants)) ⌝ }
+    requires { ⌜ (i < length (now any)) × (i < length (now ins)) × (i < length (now past)) ⌝ }
+    ensures { λ r. ⌜ (r .call ≡ calledBy (now (privileged .entry)) (now (grants .entry)) (now (ins .entry)) i) × (r .trans ≡ movedBy (now (kinds .entry)) (now (checks .entry)) (now (privileged .entry)) (now (grants .entry)) (systemOf sure) (now (any .entry)) (now (ins .entry)) (now (past .entry)) i) ⌝ }
+{
+    let call = flow::called(privileged[i], grants[i], ins[i]);
+    let trans = trans_at(sure, i, kinds, checks, privileged, grants, any, ins, past);
+    Leaving {
+        call: call,
+        trans: trans,
+    }
+}
+
+// The out set of edge e, from the sums of the nodes.
+fn out_of(
+    sure: bool,
+    e: usize,
+    kinds: &[u8],
+    checks: &[u16],
+    privileged: &[u8],
+    grants: &[u64],
+    froms: &[u16],
+    tos: &[u16],
+    ways: &[u8],
+    any: &[u64],
+    ins: &[u64],
+    past: &[u64],
+) -> u64
+    requires { ⌜ Carriable (now kinds) (now checks) (now privileged) (now grants) (now froms) (now tos) (now ways) (now any) (now ins) (now past) e ⌝ }
+    ensures { λ r. ⌜ r ≡ carriedBy (now (kinds .entry)) (now (checks .entry)) (now (privileged .entry)) (now (grants .entry)) (now (froms .entry)) (now (tos .entry)) (now (ways .entry)) (systemOf sure) (now (any .entry)) (now (ins .entry)) (now (past .entry)) e ⌝ }
+{
+    let a = froms[e] as usize;
+    let b = tos[e] as usize;
+    let x = leave(sure, a, kinds, checks, privileged, grants, any, ins, past);
+    flow::carry(ways[e], x.call, x.trans, grants[b])
 }
 
 // The out sets of all edges, from the sums of the nodes.
@@ -204,11 +281,20 @@ fn store_outs(
 {
     let mut e = 0;
     while e < m {
-        let a = froms[e] as usize;
-        let b = tos[e] as usize;
-        let call = flow::called(privileged[a], grants[a], ins[a]);
-        let trans = trans_at(sure, a, kinds, checks, privileged, grants, any, ins, past);
-        out[e] = flow::carry(ways[e], call, trans, grants[b]);
+        out[e] = out_of(
+            sure,
+            e,
+            kinds,
+            checks,
+            privileged,
+            grants,
+            froms,
+            tos,
+            ways,
+            any,
+            ins,
+            past,
+        );
         e += 1;
     }
 }
@@ -272,16 +358,15 @@ fn walk(
         let t = top - 1;
         let i = stack[t] as usize;
         marks[i] = 0;
-        let call = flow::called(privileged[i], grants[i], ins[i]);
-        let trans = trans_at(sure, i, kinds, checks, privileged, grants, any, ins, past);
+        let x = leave(sure, i, kinds, checks, privileged, grants, any, ins, past);
         top = send(
             ins,
             past,
             marks,
             stack,
             sure,
-            call,
-            trans,
+            x.call,
+            x.trans,
             head[i],
             t,
             kinds,
@@ -321,10 +406,10 @@ fn run(
     requires { ⌜ (size .n ≤ length (now ins)) × (size .n ≤ length (now past)) × (size .m ≤ length (now out)) ⌝ }
     ensures { λ r. ⌜ Settled (graphOf size (now (kinds .entry)) (now (checks .entry)) (now (privileged .entry)) (now (entries .entry)) (now (grants .entry)) (now (froms .entry)) (now (tos .entry)) (now (ways .entry))) (systemOf sure) (now (wide .entry)) (now (any .entry)) (now (ins .exit)) (now (past .exit)) (now (out .exit)) ⌝ }
 {
-    let mut marks = [1u8; 1024];
-    let mut stack = [0u16; 1024];
+    let mut marks = [worklist::MARKED; graph::MOST_NODES];
+    let mut stack = [0u16; graph::MOST_NODES];
     begin(ins, past, sure, size.k, size.n, checks, entries, grants);
-    fill(&mut stack, size.n);
+    worklist::fill(&mut stack, size.n);
     walk(
         ins,
         past,
@@ -385,13 +470,13 @@ fn store(
     requires { ⌜ ResultsLong (size .n) (size .m) (length (now denied)) (length (now granted)) (length (now may)) (length (now sure)) ⌝ }
     ensures { λ r. ⌜ Content (graphOf size (now (kinds .entry)) (now (checks .entry)) (now (privileged .entry)) (now (entries .entry)) (now (grants .entry)) (now (froms .entry)) (now (tos .entry)) (now (ways .entry))) (slices (now (denied .exit)) (now (granted .exit)) (now (may .exit)) (now (sure .exit))) ⌝ }
 {
-    let mut head = [0u16; 1024];
-    let mut prev = [0u16; 4096];
-    let mut may_ins = [0u64; 1024];
-    let mut may_past = [0u64; 1024];
-    let mut sure_ins = [0u64; 1024];
-    let mut sure_past = [0u64; 1024];
-    link(&mut head, &mut prev, size.n, size.m, froms);
+    let mut head = [0u16; graph::MOST_NODES];
+    let mut prev = [0u16; graph::MOST_EDGES];
+    let mut may_ins = [0u64; graph::MOST_NODES];
+    let mut may_past = [0u64; graph::MOST_NODES];
+    let mut sure_ins = [0u64; graph::MOST_NODES];
+    let mut sure_past = [0u64; graph::MOST_NODES];
+    worklist::link(&mut head, &mut prev, froms);
     run(
         &mut may_ins,
         &mut may_past,

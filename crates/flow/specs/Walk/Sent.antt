@@ -1,63 +1,37 @@
 -- What the walk's functions do with their slices, in the walk's terms: sets that arrive, nodes that go on the stack, and one turn of sending.
 use Prim.Native.Nat.{ℕ, zero, suc, _+_, _≤_, _<_}
-use mathlib.Core.Path.{_≡_, refl}
+use mathlib.Core.Path.{_≡_, refl, sym, ap, _∙_}
 use mathlib.Core.List.{List}
-use mathlib.Core.Bool.{Bool, true, false, cond, not, _&&_, or-false}
+use mathlib.Core.Bool.{Bool, true, false, cond, _&&_, _||_, or-false}
 use native.Mathlib.Omega.{arith}
 use lib.Dec.{eqb}
 use lib.ListN.{length, getD, set}
-use borrow.Author.Tests.{eq-eqb, ne-eqb, lt-ltb, le-ltb}
+use lib.Seq.{set-getD}
+use borrow.Author.Tests.{eq-eqb, ne-eqb}
 use Rattle.sets.specs.Sets.{has}
 use Rattle.graph.specs.Graph.{System}
-use Rattle.flow.specs.Walk.{merge, edgeNum, judgedNum, State, state, fresh, push, arrive, sendFrom, Delivered, Put}
+use Rattle.worklist.specs.Worklist.{fresh, Put}
+use Rattle.flow.specs.Walk.{merge, edgeNum, judgedNum, State, state, push, arrive, sendFrom, Sendable, Bringable, Brings, Merged, Delivered}
 
 -- ---- a set v arrives at node b
 
-module _ (y : System) (s q : List ℕ) (b v : ℕ) (counted : Bool) (m : ℕ) (sum : m ≡ merge y (getD s b 0) v) where
-  pub uncounted : counted ≡ false → Delivered y s q b v counted (set s b m) q (not (eqb m (getD s b 0)))
-  uncounted e = record {
-    ins = rw sum;
-    past = rw e;
-    told = rw (sum, e, or-false);
+-- a sum that stays as it is, and one that changes; m: the sum after it
+module _ (y : System) (s : List ℕ) (b v m : ℕ) (sum : m ≡ merge y (getD s b 0) v) where
+  pub merged-same : m ≡ getD s b 0 → Merged y s b v s false
+  merged-same e = record {
+    sums = sym (ap (set s b) (sym sum ∙ e) ∙ set-getD s b 0);
+    told = rw (← sum, eq-eqb m (getD s b 0) e);
   }
 
-  module _ (r : ℕ) (passing : r ≡ merge y (getD q b 0) v) (e : counted ≡ true) where
-    pub counted-new : (m ≡ getD s b 0 → ⊥) → Delivered y s q b v counted (set s b m) (set q b r) true
-    counted-new h = record {
-      ins = rw sum;
-      past = rw (e, passing);
-      told = rw (← sum, ne-eqb m (getD s b 0) h);
-    }
+  pub merged-new : (m ≡ getD s b 0 → ⊥) → Merged y s b v (set s b m) true
+  merged-new h = record { sums = rw sum; told = rw (← sum, ne-eqb m (getD s b 0) h) }
 
-    pub counted-old : m ≡ getD s b 0 → Delivered y s q b v counted (set s b m) (set q b r) (not (eqb r (getD q b 0)))
-    counted-old h = record {
-      ins = rw sum;
-      past = rw (e, passing);
-      told = rw (← sum, eq-eqb m (getD s b 0) h, e, passing);
-    }
+module _ (y : System) (s q : List ℕ) (b v : ℕ) (counted more : Bool) (s′ : List ℕ) (f : Merged y s b v s′ more) where
+  pub uncounted : counted ≡ false → Delivered y s q b v counted s′ q more
+  uncounted e = record { ins = f .sums; past = rw e; told = rw (e, or-false) (f .told) }
 
--- ---- node b goes on the stack, or not
-
-module _ (d st : List ℕ) (top b : ℕ) (changed : Bool) where
-  pub unchanged : changed ≡ false → Put d st top b (fresh d st top b changed) d st top
-  unchanged e = record { marks = rw e; stack = rw e; height = rw e }
-
-  module _ (e : changed ≡ true) where
-    pub marked : (getD d b 0 ≡ 0 → ⊥) → Put d st top b (fresh d st top b changed) d st top
-    marked h = let f = ne-eqb (getD d b 0) 0 h in record { marks = rw (e, f); stack = rw (e, f); height = rw (e, f) }
-
-    module _ (free : getD d b 0 ≡ 0) where
-      pub full : length st ≤ top → Put d st top b (fresh d st top b changed) d st top
-      full h =
-          let f = eq-eqb (getD d b 0) 0 free in
-          let l = le-ltb top (length st) h in
-          record { marks = rw (e, f, l); stack = rw (e, f, l); height = rw (e, f, l) }
-
-      pub stacked : top < length st → Put d st top b (fresh d st top b changed) (set d b 1) (set st top b) (top + 1)
-      stacked h =
-          let f = eq-eqb (getD d b 0) 0 free in
-          let l = lt-ltb top (length st) h in
-          record { marks = rw (e, f, l); stack = rw (e, f, l); height = rw (e, f, l) }
+  pub counted-too : counted ≡ true → (passing : Bool) (q′ : List ℕ) → Merged y q b v q′ passing → Delivered y s q b v counted s′ q′ (more || passing)
+  counted-too e passing q′ g = record { ins = f .sums; past = rw e (g .sums); told = rw (e, f .told, g .told) }
 
 pushed : (s q d st : List ℕ) (top b : ℕ) (new : Bool)
     → state s q (cond new (set d b 1) d) (cond new (set st top b) st) (cond new (top + 1) top) ≡ push s q d st top b new
@@ -65,7 +39,7 @@ unfolding push
 pushed s q d st top b true = refl
 pushed s q d st top b false = refl
 
-arrived : (y : System) (s q d st : List ℕ) (top b v : ℕ) (counted told : Bool) (s′ q′ d′ st′ : List ℕ) (top′ : ℕ)
+pub arrived : (y : System) (s q d st : List ℕ) (top b v : ℕ) (counted told : Bool) (s′ q′ d′ st′ : List ℕ) (top′ : ℕ)
     → Delivered y s q b v counted s′ q′ told
     → Put d st top b (fresh d st top b told) d′ st′ top′
     → state s′ q′ d′ st′ top′ ≡ arrive y (state s q d st top) b v counted
@@ -98,17 +72,19 @@ module _ (kinds checks grants tos ways : List ℕ) (y : System) (w prev : List �
         fuel f g (getD prev e 0) _ (omega arith) (omega arith) (omega arith)
 
     -- a turn of `send`, at edge e
-    pub sent-one : (s q d st : List ℕ) (top cur e v by : ℕ) (counted told : Bool) (s′ q′ d′ st′ : List ℕ) (top′ : ℕ)
+    pub sent-one : (x x′ : State) (cur e b v : ℕ) (counted : Bool)
         → cur ≡ suc e
         → e < length tos
-        → v ≡ edgeNum (getD ways e 0) c t (getD grants (getD tos e 0) 0)
-        → by ≡ judgedNum y (getD w e 0) v
-        → counted ≡ (eqb (getD kinds (getD tos e 0) 0) 2 && has by (getD checks (getD tos e 0) 0))
-        → Delivered y s q (getD tos e 0) v counted s′ q′ told
-        → Put d st top (getD tos e 0) (fresh d st top (getD tos e 0) told) d′ st′ top′
-        → send (getD prev e 0) (getD prev e 0) (state s′ q′ d′ st′ top′) ≡ send cur cur (state s q d st top)
+        → Brings kinds checks grants tos ways y w c t e b v counted
+        → x′ ≡ arrive y x b v counted
+        → send (getD prev e 0) (getD prev e 0) x′ ≡ send cur cur x
     unfolding sendFrom
-    sent-one s q d st top cur e v by counted told s′ q′ d′ st′ top′ ec h ev eb et f g =
+    sent-one x x′ cur e b v counted ec h f g =
         let low = down e h in
-        rw (arrived _ _ _ _ _ _ _ _ _ _ _ _ _ _ _ f g, et, eb, ev, ec)
+        rw (g, f .counts-so, f .set-sent, f .to, ec)
         (fuel (getD prev e 0) e (getD prev e 0) _ (omega arith) low (omega arith))
+
+pub bringable : (kinds checks grants tos ways w prev : List ℕ) (ins past e : ℕ) → Sendable kinds checks grants tos ways w prev ins past → e < length tos → Bringable kinds checks grants tos ways w e
+bringable kinds checks grants tos ways w prev ins past e s h =
+    let l = s .ends e h in
+    record { own = h; way = omega arith; wide = omega arith; kind = l; check = omega arith; grant = omega arith }

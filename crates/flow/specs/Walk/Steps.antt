@@ -17,10 +17,12 @@ use Rattle.sets.specs.Sets.{has}
 use Rattle.graph.specs.Graph.{Graph, to, System, may, sure}
 use Rattle.graph.specs.Graph.Rules.{to-low}
 use Rattle.graph.specs.Graph.Code.{to-code}
-use Rattle.flow.specs.Walk.{merge, callNum, pastNum, transNum, edgeNum, carried, fromOf, toOf, counts, State, state, into, changes, changed, fresh, push, arrive, Toward, Setting, Good, Quiet, Stacked, left, toDo, Sized, Sending}
+use Rattle.worklist.specs.Worklist.{fresh}
+use Rattle.worklist.specs.Worklist.Stack.{put-stacked, fresh-so, fresh-unmarked}
+use Rattle.flow.specs.Walk.{merge, callNum, pastNum, transNum, edgeNum, carried, fromOf, toOf, counts, State, state, into, changes, changed, push, arrive, Toward, Setting, Good, Quiet, left, toDo, Sized, Sending}
 use Rattle.flow.specs.Walk.Order.{toward-trans, toward-refl, merge-left, merge-right}
 use Rattle.flow.specs.Walk.Sums.{set-holds, arrive-good, carried-toward}
-use Rattle.flow.specs.Walk.Stack.{put-room, put-stacked, into-less, into-most}
+use Rattle.flow.specs.Walk.Left.{into-less, into-most}
 
 -- an edge carries the same while the sums of its from node are the same
 carried-same : (g : Graph) (y : System) (a s q s′ q′ : List ℕ) (e : ℕ) → getD s (fromOf g e) 0 ≡ getD s′ (fromOf g e) 0 → getD q (fromOf g e) 0 ≡ getD q′ (fromOf g e) 0
@@ -90,6 +92,9 @@ module _ (g : Graph) (y : System) (w a : List ℕ) (setting : Setting g y w a) (
 
   bn : b < g .size .n
   bn = rw (to-code g e) at (to-low g (setting .acc) e l)
+
+  small : b ≤ 65535
+  small = omega (arith, bn, setting .acc .shape .ranges .n-high)
 
   bs : b < length (x .ins)
   bs = omega (arith, bn, h .sized .ins-long)
@@ -181,7 +186,8 @@ module _ (g : Graph) (y : System) (w a : List ℕ) (setting : Setting g y w a) (
     where
       -- b is marked where a sum of it changed
       zero-stay : fresh (x .marks) (x .stack) (x .top) b ch ≡ false → (z : ℕ) → getD (x .marks) z 0 ≡ 0 → (getD (x .marks) z 0 ≡ 0) × (ch ≡ true → z ≡ b → ⊥)
-      zero-stay f z o = (o, λ t i. let m : getD (x .marks) b 0 ≡ 0 = rw i at o in clash (both t (both (eq-eqb (getD (x .marks) b 0) 0 m) (lt-ltb (x .top) (length (x .stack)) (put-room (g .size .n) (x .marks) (x .stack) b (x .top) bd m (h .stacked))))) f)
+      zero-stay f z o =
+          (o, λ t i. let m : getD (x .marks) b 0 ≡ 0 = rw i at o in clash (fresh-so (g .size .n) (x .marks) (x .stack) (x .top) b small bd m (h .stacked)) (rw t at f))
 
       zero-put : (z : ℕ) → getD (set (x .marks) b 1) z 0 ≡ 0 → (getD (x .marks) z 0 ≡ 0) × (ch ≡ true → z ≡ b → ⊥)
       zero-put z o = by (ℕ-discrete z b)
@@ -207,11 +213,11 @@ module _ (g : Graph) (y : System) (w a : List ℕ) (setting : Setting g y w a) (
         good = good′;
         quiet = quiet′ (set (x .marks) b 1) zero-put;
         own = own′ (set (x .marks) b 1) zero-put;
-        stacked = put-stacked (g .size .n) (x .marks) (x .stack) b (x .top) bn bd (eqb-true _ 0 (and-left (eqb (getD (x .marks) b 0) 0) _ (and-right ch _ f))) (h .stacked);
+        stacked = put-stacked (g .size .n) (x .marks) (x .stack) b (x .top) bn bd (fresh-unmarked (x .marks) (x .stack) (x .top) b ch f .1) (h .stacked);
         sized = record {
           ins-long = rw (length-set (x .ins) b (merge y (getD (x .ins) b 0) v)) (h .sized .ins-long);
           past-long = rw (length-past y (x .past) b v c) (h .sized .past-long);
           marks-long = rw (length-set (x .marks) b 1) (h .sized .marks-long);
         };
-        falls = omega (arith, both-less (and-left ch _ f), h .falls);
+        falls = omega (arith, both-less (fresh-unmarked (x .marks) (x .stack) (x .top) b ch f .0), h .falls);
       }

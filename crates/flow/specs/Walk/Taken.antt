@@ -16,9 +16,10 @@ use Rattle.sets.specs.Sets.Order.{empty-lt, common-lt, add-lt}
 use Rattle.graph.specs.Graph.{Graph, Acceptable, System, may, sure}
 use Rattle.graph.specs.Graph.Rules.{from-low}
 use Rattle.graph.specs.Graph.Code.{from-code}
-use Rattle.flow.specs.Walk.{callNum, pastNum, transNum, edgeNum, calledBy, movedBy, carried, fromOf, toOf, State, state, sendFrom, last, Linked, Sendable, Begun, Storable, Setting, Good, Quiet, toDo, Walking, Sending}
-use Rattle.flow.specs.Walk.Links.{last-upper, last-own, last-le}
-use Rattle.flow.specs.Walk.Stack.{take-stacked, none-stacked, all-stacked, zeros-none}
+use Rattle.worklist.specs.Worklist.{last, Linked, Lists, Links}
+use Rattle.worklist.specs.Worklist.Linking.{last-upper, last-own, last-le, links-linked}
+use Rattle.worklist.specs.Worklist.Stack.{take-stacked, none-stacked, all-stacked, zeros-none}
+use Rattle.flow.specs.Walk.{callNum, pastNum, transNum, edgeNum, calledBy, movedBy, carried, fromOf, toOf, State, state, sendFrom, Sendable, Begun, Carriable, Storable, Setting, Good, Quiet, toDo, Walking, Sending}
 use Rattle.flow.specs.Walk.Sums.{begun-good}
 use Rattle.flow.specs.Walk.Steps.{step}
 
@@ -143,7 +144,7 @@ module _ (g : Graph) (y : System) (w a head prev : List ℕ) (setting : Setting 
     pub first-low : getD head n 0 ≤ length (g .edges .tos)
     first-low = omega (arith, first, last-le (g .edges .froms) n (g .size .m), setting .acc .shape .edges .tos)
 
-    pub sendable : g .size .m ≤ length w → g .size .m ≤ length prev → Sendable (g .nodes .kinds) (g .nodes .checks) (g .nodes .grants) (g .edges .tos) (g .edges .ways) y w prev (x .ins) (x .past) (set (x .marks) n 0)
+    pub sendable : g .size .m ≤ length w → g .size .m ≤ length prev → Sendable (g .nodes .kinds) (g .nodes .checks) (g .nodes .grants) (g .edges .tos) (g .edges .ways) w prev (length (x .ins)) (length (x .past))
     sendable lw lp =
         let s = setting .acc .shape .nodes in
         let e = setting .acc .shape .edges in
@@ -155,7 +156,6 @@ module _ (g : Graph) (y : System) (w a head prev : List ℕ) (setting : Setting 
           prev-long = omega arith;
           ins-long = omega (arith, h .sized .ins-long);
           past-long = omega (arith, h .sized .past-long);
-          marks-long = rw (length-set (x .marks) n 0) (omega (arith, h .sized .marks-long));
           ends = λ d l. omega (arith, (setting .acc .edges d (omega arith)) .to-node);
           down = λ d l. omega (arith, links .prevs d (omega arith), last-le (g .edges .froms) (fromOf g d) d);
         }
@@ -170,6 +170,14 @@ module _ (g : Graph) (y : System) (w a head prev : List ℕ) (setting : Setting 
   pub rested : (x : State) → x .top ≡ 0 → Walking g y w a x → (e : ℕ) → e < g .size .m → Quiet g y w a (x .ins) (x .past) e
   rested x z h e l =
       h .pending .quiet e l (none-stacked (g .size .n) (x .marks) (x .stack) (rw z at (h .stacked)) (fromOf g e) (rw (from-code g e) at (from-low g (setting .acc) e l)))
+
+-- the lists that are stored of an accepted graph hold its edges
+pub lists-linked : (g : Graph) (head prev : List ℕ) → Acceptable g → ((i : ℕ) → i < length head → getD head i 0 ≡ 0) → g .size .n ≤ length head → g .size .m ≤ length prev
+    → {r : Bool} {x : Lists} → Links (g .edges .froms) head prev r x → Linked (g .edges .froms) (g .size .n) (x .head) (x .prev) (g .size .m)
+lists-linked g head prev acc empty lh lp {r} {x} h =
+    let m = acc .shape .edges .froms in
+    let linked : Linked (g .edges .froms) (g .size .n) (x .head) (x .prev) (length (g .edges .froms)) = links-linked (g .edges .froms) (g .size .n) head prev (λ i l. empty i (omega arith)) lh (λ e l. (acc .edges e (omega arith)) .from-node) (omega arith) (omega (arith, acc .shape .ranges .m-high)) h in
+    rw m at linked
 
 -- every node on the stack, and all sums as they begin
 pub walk-begins : (g : Graph) (y : System) (w a s q d st : List ℕ) → Acceptable g → Begun y (g .size .k) (g .size .n) (g .nodes .checks) (g .nodes .entries) (g .nodes .grants) s q
@@ -204,4 +212,23 @@ storable g out a s q acc lo la ls lq =
       past-long = lq;
       starts = λ d l. (acc .edges d l) .from-node;
       ends = λ d l. (acc .edges d l) .to-node;
+    }
+
+pub carriable : {n m out : ℕ} (kinds checks privileged grants froms tos ways a s q : List ℕ) → Storable n m out kinds checks privileged grants froms tos ways a s q
+    → (e : ℕ) → e < m → Carriable kinds checks privileged grants froms tos ways a s q e
+carriable kinds checks privileged grants froms tos ways a s q h e l =
+    let f = h .starts e l in
+    let t = h .ends e l in
+    record {
+      from = omega arith;
+      to = omega arith;
+      way = omega arith;
+      kind = omega arith;
+      check = omega arith;
+      mark = omega arith;
+      grant = omega arith;
+      any = omega arith;
+      ins = omega arith;
+      past = omega arith;
+      into-grant = omega arith;
     }

@@ -1,8 +1,9 @@
+-- Both sums are written for the nodes below i.
 use Prim.Native.Nat.{_-_}
 use lib.ListN.{getD}
 use native.Mathlib.Omega.{arith}
 use borrow.Author.Needs.{needs}
-use Rattle.flow.specs.Walk.Filled.{Filled, filled-none, filled-more, filled-all}
+use Rattle.worklist.specs.Worklist.Filled.{Filled, filled-none, filled-more, filled-all}
 use Rattle.flow.specs.Walk.{systemOf, startIns, startPast}
 use Rattle.solver.proofs.begin.Statement.{statement}
 use Rattle.solver.proofs.begin.Tie as tie
@@ -18,14 +19,14 @@ abbrev μ-loop : tie.MeasureT-loop
 loop-holds : tie.Need-loop-holds Inv-loop μ-loop
 loop-holds c = (filled-none _ _ _, filled-none _ _ _)
 
-shared-slice-read-first-sum : tie.Need-shared-slice-read-first-sum Inv-loop μ-loop
-shared-slice-read-first-sum c = omega arith
+shared-slice-read-entry : tie.Need-shared-slice-read-entry Inv-loop μ-loop
+shared-slice-read-entry c = omega arith
 
-mul-first-sum : tie.Need-mul-first-sum Inv-loop μ-loop
-mul-first-sum c = omega arith
+mul-own : tie.Need-mul-own Inv-loop μ-loop
+mul-own c = omega arith
 
-shared-slice-read-first-sum-2 : tie.Need-shared-slice-read-first-sum-2 Inv-loop μ-loop
-shared-slice-read-first-sum-2 c = omega arith
+shared-slice-read-own : tie.Need-shared-slice-read-own Inv-loop μ-loop
+shared-slice-read-own c = omega arith
 
 first-sum-requires : tie.Need-first-sum-requires Inv-loop μ-loop
 first-sum-requires c κs = search needs
@@ -36,20 +37,11 @@ mul-ins c = omega arith
 slice-write-ins : tie.Need-slice-write-ins Inv-loop μ-loop
 slice-write-ins c = omega arith
 
-shared-slice-read-first-passing : tie.Need-shared-slice-read-first-passing Inv-loop μ-loop
-shared-slice-read-first-passing c = omega arith
-
 mul-first-passing : tie.Need-mul-first-passing Inv-loop μ-loop
 mul-first-passing c = omega arith
 
-shared-slice-read-first-passing-2 : tie.Need-shared-slice-read-first-passing-2 Inv-loop μ-loop
-shared-slice-read-first-passing-2 c = omega arith
-
-mul-first-passing-2 : tie.Need-mul-first-passing-2 Inv-loop μ-loop
-mul-first-passing-2 c = omega arith
-
-shared-slice-read-first-passing-3 : tie.Need-shared-slice-read-first-passing-3 Inv-loop μ-loop
-shared-slice-read-first-passing-3 c = omega arith
+shared-slice-read-first-passing : tie.Need-shared-slice-read-first-passing Inv-loop μ-loop
+shared-slice-read-first-passing c = omega arith
 
 first-passing-requires : tie.Need-first-passing-requires Inv-loop μ-loop
 first-passing-requires c κs = search needs
@@ -68,10 +60,10 @@ loop-less c = omega arith
 
 loop-again : tie.Need-loop-again Inv-loop μ-loop
 loop-again c =
-    let at = c .before .before .before .before .before .before .before .before .loop in
-    let more = c .before .before .before .before .before .before .before .loop-test .taken in (
-      filled-more _ _ _ _ _ _ more (omega arith) (c .before .before .before .before .first-sum .ensures) (at .inv .0),
-      filled-more _ _ _ _ _ _ more (omega arith) (c .first-passing .ensures) (at .inv .1),
+    let turn = c .before .before .before .before .before in
+    let at = turn .before .loop in (
+      filled-more _ _ _ _ _ _ (turn .loop-test .taken) (omega arith) (c .before .before .first-sum .ensures) (at .inv .0),
+      filled-more _ _ _ _ _ _ (turn .loop-test .taken) (omega arith) (c .first-passing .ensures) (at .inv .1),
     )
 
 same-length : tie.Need-same-length Inv-loop μ-loop
@@ -92,17 +84,14 @@ begin-spec =
     Inv-loop
     μ-loop
     loop-holds
-    shared-slice-read-first-sum
-    mul-first-sum
-    shared-slice-read-first-sum-2
+    shared-slice-read-entry
+    mul-own
+    shared-slice-read-own
     first-sum-requires
     mul-ins
     slice-write-ins
-    shared-slice-read-first-passing
     mul-first-passing
-    shared-slice-read-first-passing-2
-    mul-first-passing-2
-    shared-slice-read-first-passing-3
+    shared-slice-read-first-passing
     first-passing-requires
     mul-past
     slice-write-past

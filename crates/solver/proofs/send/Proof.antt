@@ -1,12 +1,12 @@
--- `solver::send` meets its contract. The loop's invariant: what is sent from here on makes of the slices what sending from the start makes of
--- them as they were, and the slices keep their lengths. The measure is `cur`, since lists of edges lead down. Assumes nothing.
+-- The loop's invariant: what is sent from here on makes of the slices what sending from the start makes of them as they were, and the
+-- slices keep their lengths. The measure is `cur`, since lists of edges lead down.
 use mathlib.Core.Path.{_≡_, refl, _∙_}
 use Prim.Native.Nat.{ℕ, _-_, _≤_, _<_}
 use lib.ListN.{length, getD}
 use native.Mathlib.Omega.{arith}
 use borrow.Author.Needs.{needs}
 use Rattle.flow.specs.Walk.{systemOf, state, sendFrom}
-use Rattle.flow.specs.Walk.Sent.{sent-all, sent-one}
+use Rattle.flow.specs.Walk.Sent.{sent-all, sent-one, bringable}
 use Rattle.solver.proofs.send.Statement.{statement}
 use Rattle.solver.proofs.send.Tie as tie
 
@@ -35,14 +35,15 @@ module _ (c : tie.In-loop Inv-loop μ-loop) where
   low : getD (start .args .prev .now) edge 0 < c .before .loop .cur
   low = omega (arith, start .pre .0 .down edge own)
 
-  in-ins : getD (start .args .tos .now) edge 0 < length (c .before .loop .ins)
-  in-ins = omega (arith, ends, start .pre .0 .ins-long)
+-- the end of a turn, when the next edge is read, and what came before it
+abbrev arrived : tie.After-shared-slice-known8 Inv-loop μ-loop → tie.After-arrive Inv-loop μ-loop
+arrived c = c .before .before .before .before .before .before .before .before .before
 
-  in-past : getD (start .args .tos .now) edge 0 < length (c .before .loop .past)
-  in-past = omega (arith, ends, start .pre .0 .past-long)
+abbrev brought : tie.After-arrive Inv-loop μ-loop → tie.After-bring Inv-loop μ-loop
+brought c = c .before .before .before .before .before
 
-  in-marks : getD (start .args .tos .now) edge 0 < length (c .before .loop .marks)
-  in-marks = omega (arith, ends, start .pre .0 .marks-long)
+abbrev turn : tie.After-shared-slice-known8 Inv-loop μ-loop → tie.In-loop Inv-loop μ-loop
+turn c = brought (arrived c) .before
 
 loop-holds : tie.Need-loop-holds Inv-loop μ-loop
 loop-holds c = (refl, c .before .before .before .before .before .before .before .before .before .before .before .pre .1, refl, refl, refl, refl)
@@ -50,75 +51,39 @@ loop-holds c = (refl, c .before .before .before .before .before .before .before 
 sub-e : tie.Need-sub-e Inv-loop μ-loop
 sub-e c = search needs
 
-cast-e : tie.Need-cast-e Inv-loop μ-loop
-cast-e c = omega arith
+bring-requires : tie.Need-bring-requires Inv-loop μ-loop
+bring-requires c κs = bringable _ _ _ _ _ _ _ _ _ _ (start c .pre .0) (own c)
 
-mul-b : tie.Need-mul-b Inv-loop μ-loop
-mul-b c = omega arith
-
-shared-slice-read-b : tie.Need-shared-slice-read-b Inv-loop μ-loop
-shared-slice-read-b c = own (c .before)
-
-cast-b : tie.Need-cast-b Inv-loop μ-loop
-cast-b c = omega (arith, c .shared-slice-known8 .given (edge (c .before)))
-
-shared-slice-read-carry : tie.Need-shared-slice-read-carry Inv-loop μ-loop
-shared-slice-read-carry c = let i = c .before .before in omega (arith, own i, start i .pre .0 .ways-long)
-
-mul-carry : tie.Need-mul-carry Inv-loop μ-loop
-mul-carry c = let i = c .before .before in omega (arith, ends i, start i .pre .0 .grants-long)
-
-shared-slice-read-carry-2 : tie.Need-shared-slice-read-carry-2 Inv-loop μ-loop
-shared-slice-read-carry-2 c = let i = c .before .before .before in omega (arith, ends i, start i .pre .0 .grants-long)
-
-carry-requires : tie.Need-carry-requires Inv-loop μ-loop
-carry-requires c κs = search needs
-
-judged-requires : tie.Need-judged-requires Inv-loop μ-loop
-judged-requires c κs = let i = c .before .before .before .before in omega (arith, own i, start i .pre .0 .wide-long)
-
-shared-slice-read-counts : tie.Need-shared-slice-read-counts Inv-loop μ-loop
-shared-slice-read-counts c = ends (c .before .before .before .before .before .before)
-
-mul-counts : tie.Need-mul-counts Inv-loop μ-loop
-mul-counts c = let i = c .before .before .before .before .before .before in omega (arith, ends i, start i .pre .0 .checks-long)
-
-shared-slice-read-counts-2 : tie.Need-shared-slice-read-counts-2 Inv-loop μ-loop
-shared-slice-read-counts-2 c = let i = c .before .before .before .before .before .before .before in omega (arith, ends i, start i .pre .0 .checks-long)
-
-counts-requires : tie.Need-counts-requires Inv-loop μ-loop
-counts-requires c κs = search needs
-
-deliver-requires : tie.Need-deliver-requires Inv-loop μ-loop
-deliver-requires c κs = let i = c .before .before .before .before .before .before .before .before .before .before in (in-ins i, in-past i)
-
-put-requires : tie.Need-put-requires Inv-loop μ-loop
-put-requires c κs = let a = c .before .before .before .before .before .before .before .before .before .before .before .before .before .before .before .before in (in-marks (a .before), omega (arith, a .shared-slice-known8 .given (edge (a .before))))
+arrive-requires : tie.Need-arrive-requires Inv-loop μ-loop
+arrive-requires c κs =
+    let b = c .before .before .before .before in
+    let s = start (b .before) .pre .0 in
+    let to = b .bring .ensures .to in
+    (omega (arith, to, ends (b .before), s .ins-long), omega (arith, to, ends (b .before), s .past-long))
 
 mul-cur : tie.Need-mul-cur Inv-loop μ-loop
-mul-cur c = let i = c .before .before .before .before .before .before .before .before .before .before .before .before .before .before .before .before .before .before .before .before .before .before in omega (arith, own i, start i .good)
+mul-cur c = let i = c .before .before .before .before .before .before .before .before .before .before .before .before .before .before in omega (arith, own i, start i .good)
 
 shared-slice-read-cur : tie.Need-shared-slice-read-cur Inv-loop μ-loop
-shared-slice-read-cur c = let i = c .before .before .before .before .before .before .before .before .before .before .before .before .before .before .before .before .before .before .before .before .before .before .before in omega (arith, own i, start i .pre .0 .prev-long)
+shared-slice-read-cur c = omega (arith, own (turn c), start (turn c) .pre .0 .prev-long)
+
+cast-cur : tie.Need-cast-cur Inv-loop μ-loop
+cast-cur c = omega (arith, c .shared-slice-known8 .given (edge (turn c)))
 
 loop-less : tie.Need-loop-less Inv-loop μ-loop
-loop-less c = let i = c .before .before .before .before .before .before .before .before .before .before .before .before .before .before .before .before .before .before .before .before .before .before .before in omega (arith, low i)
+loop-less c = omega (arith, low (turn c))
 
 loop-again : tie.Need-loop-again Inv-loop μ-loop
 loop-again c =
-    let p = c .before .before .before .before .before in
-    let d = p .before .before .before .before .before .before .before in
-    let k = d .before .before .before in
-    let j = k .before .before .before in
-    let i = j .before .before .before .before .before in
-    let at = i .before .loop in (
-      sent-one _ _ _ _ _ _ _ _ _ _ (start i .pre .0 .down) _ _ _ _ _ _ (edge i) _ _ _ _ _ _ _ _ _ (omega arith) (own i)
-          (j .before .carry .ensures) (j .judged .ensures) (k .counts .ensures) (d .deliver .ensures) (p .put .ensures) ∙ at .inv .0,
+    let i = turn c in
+    let at = i .before .loop in
+    let a = arrived c .arrive in (
+      sent-one _ _ _ _ _ _ _ _ _ _ (start i .pre .0 .down) _ _ _ (edge i) _ _ _ (omega arith) (own i) (brought (arrived c) .bring .ensures) (a .ensures) ∙ at .inv .0,
       omega (arith, own i, low i),
-      d .deliver .kept .0 ∙ at .inv .2,
-      d .deliver .kept .1 .0 ∙ at .inv .3,
-      p .put .kept .0 ∙ at .inv .4,
-      p .put .kept .1 .0 ∙ at .inv .5,
+      a .kept .0 ∙ at .inv .2,
+      a .kept .1 .0 ∙ at .inv .3,
+      a .kept .1 .1 .0 ∙ at .inv .4,
+      a .kept .1 .1 .1 .0 ∙ at .inv .5,
     )
 
 same-length : tie.Need-same-length Inv-loop μ-loop
@@ -144,23 +109,11 @@ send-spec =
     μ-loop
     loop-holds
     sub-e
-    cast-e
-    mul-b
-    shared-slice-read-b
-    cast-b
-    shared-slice-read-carry
-    mul-carry
-    shared-slice-read-carry-2
-    carry-requires
-    judged-requires
-    shared-slice-read-counts
-    mul-counts
-    shared-slice-read-counts-2
-    counts-requires
-    deliver-requires
-    put-requires
+    bring-requires
+    arrive-requires
     mul-cur
     shared-slice-read-cur
+    cast-cur
     loop-less
     loop-again
     same-length

@@ -1,7 +1,7 @@
 use Prim.Native.Nat.{_-_}
 use native.Mathlib.Omega.{arith}
 use borrow.Author.Needs.{needs}
-use Rattle.flow.specs.Walk.Filled.{Filled, filled-none, filled-more, filled-all}
+use Rattle.worklist.specs.Worklist.Filled.{Filled, filled-none, filled-more, filled-all}
 use Rattle.sets.specs.Sets.{all, without}
 use Rattle.flow.specs.Walk.{calledBy}
 use Rattle.solver.proofs.store_nodes.Statement.{statement}

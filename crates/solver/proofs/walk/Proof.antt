@@ -1,3 +1,5 @@
+-- The loop's invariant is `Walking`, and that the slices keep their lengths. The measure is what is left to do: the sums that can still
+-- move, and the nodes on the stack.
 use Prim.Native.Nat.{ℕ, _-_, _+_, _<_}
 use mathlib.Core.Path.{_≡_, refl, _∙_}
 use native.Mathlib.Omega.{arith}
@@ -5,7 +7,9 @@ use lib.ListN.{length, getD, length-set}
 use borrow.Author.Needs.{needs}
 use Rattle.graph.specs.Graph.{Graph, graphOf, sizeOf}
 use Rattle.flow.specs.Walk.{systemOf, state, State, toDo, Walking}
-use Rattle.flow.specs.Walk.Taken.{top-low, node-reads, first-low, sendable, turn}
+use Rattle.worklist.specs.Worklist.{Linked}
+use Rattle.flow.specs.Walk.Taken.{top-low, node-reads, first-low, sendable}
+use Rattle.flow.specs.Walk.Taken as taken
 use Rattle.solver.proofs.walk.Statement.{statement}
 use Rattle.solver.proofs.walk.Tie as tie
 
@@ -31,17 +35,41 @@ module _ (c : tie.In-loop Inv-loop μ-loop) where
   abbrev t : ℕ
   t = c .before .loop .top - 1
 
+  abbrev walking : Walking g (systemOf (start .args .sure)) (start .args .wide .now) (start .args .any .now) x
+  walking = c .before .loop .inv .0
+
+  abbrev linked : Linked (g .edges .froms) (g .size .n) (start .args .head .now) (start .args .prev .now) (g .size .m)
+  linked = start .pre .1 .1 .0
+
   above : c .before .loop .top ≡ t + 1
   above = omega (arith, c .loop-test .taken)
 
   low : getD (c .before .loop .stack) t 0 < start .args .n
-  low = top-low g _ _ _ _ _ (start .pre .0) (start .pre .1 .1 .0) x t above (c .before .loop .inv .0)
+  low = top-low g _ _ _ _ _ (start .pre .0) linked x t above walking
 
   small : getD (c .before .loop .stack) t 0 < 1024
   small = omega (arith, low, start .pre .0 .acc .shape .ranges .n-high)
 
   reads : (getD (c .before .loop .stack) t 0 < length (start .args .kinds .now)) × (getD (c .before .loop .stack) t 0 < length (start .args .checks .now)) × (getD (c .before .loop .stack) t 0 < length (start .args .privileged .now)) × (getD (c .before .loop .stack) t 0 < length (start .args .grants .now))
-  reads = node-reads g _ _ _ _ _ (start .pre .0) (start .pre .1 .1 .0) x t above (c .before .loop .inv .0)
+  reads = node-reads g _ _ _ _ _ (start .pre .0) linked x t above walking
+
+-- places of a turn: what leaves the node is known, and all of it was sent
+abbrev left : tie.After-shared-slice-known13 Inv-loop μ-loop → tie.After-leave Inv-loop μ-loop
+left c = c .before .before .before .before .before
+
+abbrev sent : tie.After-slice-known9 Inv-loop μ-loop → tie.After-send Inv-loop μ-loop
+sent c = c .before .before .before .before .before .before .before .before
+
+abbrev turn : tie.After-leave Inv-loop μ-loop → tie.In-loop Inv-loop μ-loop
+turn c = c .before .before .before .before
+
+-- the turn keeps the invariant, and less is left to do
+module _ (c : tie.After-slice-known9 Inv-loop μ-loop) where
+  abbrev l : tie.After-leave Inv-loop μ-loop
+  l = left (sent c .before)
+
+  abbrev i : tie.In-loop Inv-loop μ-loop
+  i = turn l
 
 loop-holds : tie.Need-loop-holds Inv-loop μ-loop
 loop-holds c = (c .before .before .before .before .before .before .before .before .before .before .before .before .before .before .before .before .pre .1 .0, refl, refl, refl, refl)
@@ -53,49 +81,52 @@ mul-i : tie.Need-mul-i Inv-loop μ-loop
 mul-i c = search needs
 
 slice-read-i : tie.Need-slice-read-i Inv-loop μ-loop
-slice-read-i c = omega (arith, c .before .before .loop .inv .0 .stacked .free, above (c .before))
+slice-read-i c = omega (arith, walking (c .before) .stacked .free, above (c .before))
 
 cast-i : tie.Need-cast-i Inv-loop μ-loop
 cast-i c = omega (arith, low (c .before))
 
 slice-write-marks : tie.Need-slice-write-marks Inv-loop μ-loop
-slice-write-marks c = omega (arith, low (c .before), c .before .before .loop .inv .0 .sized .marks-long)
+slice-write-marks c = omega (arith, low (c .before), walking (c .before) .sized .marks-long)
 
-shared-slice-read-called : tie.Need-shared-slice-read-called Inv-loop μ-loop
-shared-slice-read-called c = reads (c .before .before) .2
-
-mul-called : tie.Need-mul-called Inv-loop μ-loop
-mul-called c = omega (arith, small (c .before .before))
-
-shared-slice-read-called-2 : tie.Need-shared-slice-read-called-2 Inv-loop μ-loop
-shared-slice-read-called-2 c = reads (c .before .before .before) .3
-
-mul-called-2 : tie.Need-mul-called-2 Inv-loop μ-loop
-mul-called-2 c = omega (arith, small (c .before .before .before))
-
-slice-read-called : tie.Need-slice-read-called Inv-loop μ-loop
-slice-read-called c = omega (arith, low (c .before .before .before .before), c .before .before .before .before .before .loop .inv .0 .sized .ins-long)
-
-called-requires : tie.Need-called-requires Inv-loop μ-loop
-called-requires c κs = search needs
-
-trans-at-requires : tie.Need-trans-at-requires Inv-loop μ-loop
-trans-at-requires c κs = let i = c .before .before .before .before .before .before .before in ((reads i .0, reads i .1, reads i .2, reads i .3), (omega (arith, low i, start i .pre .1 .1 .1 .1), omega (arith, low i, i .before .loop .inv .0 .sized .ins-long), omega (arith, low i, i .before .loop .inv .0 .sized .past-long)))
+leave-requires : tie.Need-leave-requires Inv-loop μ-loop
+leave-requires c κs =
+    let i = c .before .before .before in
+    let z = walking i .sized in (
+      (reads i .0, reads i .1, reads i .2, reads i .3),
+      (omega (arith, low i, start i .pre .1 .1 .1 .1), omega (arith, low i, z .ins-long), omega (arith, low i, z .past-long)),
+    )
 
 mul-send : tie.Need-mul-send Inv-loop μ-loop
-mul-send c = omega (arith, small (c .before .before .before .before .before .before .before .before .before .before .before .before))
+mul-send c = omega (arith, small (turn (c .before .before .before .before)))
 
 shared-slice-read-send : tie.Need-shared-slice-read-send Inv-loop μ-loop
-shared-slice-read-send c = let i = c .before .before .before .before .before .before .before .before .before .before .before .before .before in omega (arith, low i, start i .pre .1 .1 .1 .2)
+shared-slice-read-send c = let i = turn (left c) in omega (arith, low i, start i .pre .1 .1 .1 .2)
 
 send-requires : tie.Need-send-requires Inv-loop μ-loop
-send-requires c κs = let i = c .before .before .before .before .before .before .before .before .before .before .before .before .before in let s = start i in (sendable (g i) _ _ _ _ _ (s .pre .0) (s .pre .1 .1 .0) (x i) (t i) (above i) (i .before .loop .inv .0) (s .pre .1 .1 .1 .0) (s .pre .1 .1 .1 .3), first-low (g i) _ _ _ _ _ (s .pre .0) (s .pre .1 .1 .0) (x i) (t i) (above i) (i .before .loop .inv .0))
+send-requires c κs =
+    let i = turn (left c) in
+    let s = start i in (
+      sendable (g i) _ _ _ _ _ (s .pre .0) (linked i) (x i) (t i) (above i) (walking i) (s .pre .1 .1 .1 .0) (s .pre .1 .1 .1 .3),
+      first-low (g i) _ _ _ _ _ (s .pre .0) (linked i) (x i) (t i) (above i) (walking i),
+    )
 
 loop-less : tie.Need-loop-less Inv-loop μ-loop
-loop-less c = let i = c .before .before .before .before .before .before .before .before .before .before .before .before .before .before .before .before .before .before .before .before .before .before in let s = start i in turn (g i) _ _ _ _ _ (s .pre .0) (s .pre .1 .1 .0) (x i) (t i) (above i) (i .before .loop .inv .0) _ _ (c .before .before .before .before .before .before .before .before .before .before .before .before .before .before .before .before .before .called .ensures) (c .before .before .before .before .before .before .before .before .before .before .before .before .before .before .trans-at .ensures) _ (c .before .before .before .before .before .before .before .before .send .ensures) .1
+loop-less c =
+    let v = l c .leave .ensures in
+    taken.turn (g (i c)) _ _ _ _ _ (start (i c) .pre .0) (linked (i c)) (x (i c)) (t (i c)) (above (i c)) (walking (i c)) _ _ (v .0) (v .1) _ (sent c .send .ensures) .1
 
 loop-again : tie.Need-loop-again Inv-loop μ-loop
-loop-again c = let i = c .before .before .before .before .before .before .before .before .before .before .before .before .before .before .before .before .before .before .before .before .before .before in let s = start i in let v = c .before .before .before .before .before .before .before .before .send .kept in let o = i .before .loop .inv in (turn (g i) _ _ _ _ _ (s .pre .0) (s .pre .1 .1 .0) (x i) (t i) (above i) (i .before .loop .inv .0) _ _ (c .before .before .before .before .before .before .before .before .before .before .before .before .before .before .before .before .before .called .ensures) (c .before .before .before .before .before .before .before .before .before .before .before .before .before .before .trans-at .ensures) _ (c .before .before .before .before .before .before .before .before .send .ensures) .0, v .0 ∙ o .1, v .1 .0 ∙ o .2, v .1 .1 .0 ∙ length-set (i .before .loop .marks) (getD (i .before .loop .stack) (t i) 0) 0 ∙ o .3, v .1 .1 .1 .0 ∙ o .4)
+loop-again c =
+    let v = l c .leave .ensures in
+    let k = sent c .send .kept in
+    let o = i c .before .loop .inv in (
+      taken.turn (g (i c)) _ _ _ _ _ (start (i c) .pre .0) (linked (i c)) (x (i c)) (t (i c)) (above (i c)) (walking (i c)) _ _ (v .0) (v .1) _ (sent c .send .ensures) .0,
+      k .0 ∙ o .1,
+      k .1 .0 ∙ o .2,
+      k .1 .1 .0 ∙ length-set (i c .before .loop .marks) (getD (i c .before .loop .stack) (t (i c)) 0) 0 ∙ o .3,
+      k .1 .1 .1 .0 ∙ o .4,
+    )
 
 same-length : tie.Need-same-length Inv-loop μ-loop
 same-length c = c .before .loop .inv .1
@@ -124,13 +155,7 @@ walk-spec =
     slice-read-i
     cast-i
     slice-write-marks
-    shared-slice-read-called
-    mul-called
-    shared-slice-read-called-2
-    mul-called-2
-    slice-read-called
-    called-requires
-    trans-at-requires
+    leave-requires
     mul-send
     shared-slice-read-send
     send-requires

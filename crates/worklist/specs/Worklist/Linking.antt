@@ -1,7 +1,8 @@
 -- The lists of edges: what their ends are, and how they grow by an edge.
 use Prim.Native.Nat.{ℕ, zero, suc, _+_, _≤_, _<_}
-use mathlib.Core.Path.{_≡_, sym, ap, _∙_}
+use mathlib.Core.Path.{_≡_, refl, sym, ap, _∙_}
 use mathlib.Core.List.{List}
+use mathlib.Core.Bool.{Bool, true, false}
 use mathlib.Core.Logic.{⊎-elim}
 use native.Mathlib.Nat.{not-suc-le-zero, le-of-suc-le-suc, eq-or-lt-of-le}
 use native.Mathlib.Numerals.{add-one}
@@ -9,10 +10,10 @@ use native.Mathlib.Decide.{ℕ-discrete}
 use native.Mathlib.Omega.{arith}
 use borrow.Author.Count.{below-none}
 use borrow.Author.Tests.{eq-eqb, ne-eqb}
-use lib.ListN.{length, getD, set}
+use lib.ListN.{length, getD, set, length-set}
 use lib.Seq.{getD-set-same, getD-set-other}
-use Rattle.flow.specs.Walk.{last, Linked}
-use Rattle.flow.specs.Walk.Filled.{set-more}
+use Rattle.worklist.specs.Worklist.{last, Linked, Lists, lists, linkOne, linkTo, Linkable, Links, linked, kept}
+use Rattle.worklist.specs.Worklist.Filled.{set-more}
 
 module _ (froms : List ℕ) (n i : ℕ) where
   pub last-here : getD froms i 0 ≡ n → last froms n (suc i) ≡ suc i
@@ -70,3 +71,37 @@ module _ (froms : List ℕ) (n : ℕ) (head prev : List ℕ) where
       go : (i : ℕ) → i < n → Dec (getD froms e 0 ≡ i) → getD (set head (getD froms e 0) (e + 1)) i 0 ≡ last froms i (e + 1)
       go i l (yes q) = rw (q, add-one e, last-here froms i e q) (getD-set-same head i (suc e) 0 (omega arith))
       go i l (no q) = rw (add-one e, last-past froms i e q) (getD-set-other head _ i (suc e) 0 (λ z. q (sym z)) ∙ w .heads i l)
+
+-- ---- what `link` stores
+
+module _ (froms : List ℕ) where
+  pub link-more : (i : ℕ) (x : Lists) → linkTo froms (i + 1) x ≡ linkOne froms i (linkTo froms i x)
+  unfolding linkTo
+  link-more i x = ap (λ (j : ℕ). linkTo froms j x) (add-one i)
+
+  pub head-long : (i : ℕ) (x : Lists) → length (linkTo froms i x .head) ≡ length (x .head)
+  unfolding linkTo
+  head-long zero x = refl
+  head-long (suc i) x = length-set (linkTo froms i x .head) (getD froms i 0) (i + 1) ∙ head-long i x
+
+  pub prev-long : (i : ℕ) (x : Lists) → length (linkTo froms i x .prev) ≡ length (x .prev)
+  unfolding linkTo
+  prev-long zero x = refl
+  prev-long (suc i) x = length-set (linkTo froms i x .prev) i (getD (linkTo froms i x .head) (getD froms i 0) 0) ∙ prev-long i x
+
+  pub links-by : (head prev : List ℕ) (x : Lists) → Linkable froms (length head) (length prev) → x ≡ linkTo froms (length froms) (lists head prev) → Links froms head prev true x
+  links-by head prev x h e = rw e (linked h)
+
+  module _ (n : ℕ) (head prev : List ℕ) (empty : (i : ℕ) → i < n → getD head i 0 ≡ 0) (long : n ≤ length head) (starts : (e : ℕ) → e < length froms → getD froms e 0 < n) (room : length froms ≤ length prev) where
+    linked-to : (i : ℕ) → i ≤ length froms → Linked froms n (linkTo froms i (lists head prev) .head) (linkTo froms i (lists head prev) .prev) i
+    unfolding linkTo
+    linked-to zero l = link-none froms n head prev empty
+    linked-to (suc i) l =
+        rw (← add-one i)
+        (link-step froms n (linkTo froms i (lists head prev) .head) (linkTo froms i (lists head prev) .prev) i (omega (arith, prev-long i (lists head prev)))
+        (omega (arith, head-long i (lists head prev))) (starts i (omega arith)) (linked-to i (omega arith)))
+
+    -- lists that were empty, of edges that leave nodes, are linked
+    pub links-linked : length froms ≤ 65535 → {r : Bool} {x : Lists} → Links froms head prev r x → Linked froms n (x .head) (x .prev) (length froms)
+    links-linked few (linked _) = linked-to (length froms) (omega arith)
+    links-linked few (kept d) = absurd (d (record { room = room; few = few; starts = λ e l. omega (arith, starts e l) }))

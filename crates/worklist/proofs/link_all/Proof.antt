@@ -1,25 +1,27 @@
+-- The edges below e are linked.
 use Prim.Native.Nat.{_-_, _≤_, _<_}
 use mathlib.Core.Path.{_≡_, refl}
 use native.Mathlib.Omega.{arith}
 use lib.ListN.{length, getD, length-set}
-use Rattle.flow.specs.Walk.{Linked}
-use Rattle.flow.specs.Walk.Links.{link-none, link-step}
-use Rattle.solver.proofs.link.Statement.{statement}
-use Rattle.solver.proofs.link.Tie as tie
+use Rattle.worklist.specs.Worklist.{lists, linkTo}
+use Rattle.worklist.specs.Worklist.Linking.{link-more}
+use Rattle.worklist.proofs.link_all.Statement.{statement}
+use Rattle.worklist.proofs.link_all.Tie as tie
 
 abbrev Inv-loop : tie.InvT-loop
-Inv-loop head₀ prev₀ n m froms e₀ head prev e =
-    (e ≤ m) × (length head ≡ length head₀) × (length prev ≡ length prev₀) × Linked froms n head prev e
+Inv-loop head₀ prev₀ froms e₀ head prev e =
+    (e ≤ length froms) × (length head ≡ length head₀) × (length prev ≡ length prev₀) × (lists head prev ≡ linkTo froms e (lists head₀ prev₀))
 
 abbrev μ-loop : tie.MeasureT-loop
-μ-loop head₀ prev₀ n m froms e₀ head prev e = m - e
+μ-loop head₀ prev₀ froms e₀ head prev e = length froms - e
 
--- the edge's from node is one of the nodes
-from-below : (c : tie.In-loop Inv-loop μ-loop) → getD (c .before .before .args .froms .now) (c .before .loop .e) 0 < c .before .before .args .n
-from-below c = c .before .before .pre .1 .0 (c .before .loop .e) (c .loop-test .taken)
+-- the edge's from node has a place in `head`
+from-below : (c : tie.In-loop Inv-loop μ-loop) → getD (c .before .before .args .froms .now) (c .before .loop .e) 0 < length (c .before .before .args .head .now)
+from-below c = c .before .before .pre .starts (c .before .loop .e) (c .loop-test .taken)
 
 loop-holds : tie.Need-loop-holds Inv-loop μ-loop
-loop-holds c = (omega arith, refl, refl, link-none _ _ _ _ (c .pre .1 .1))
+unfolding linkTo
+loop-holds c = (omega arith, refl, refl, refl)
 
 mul-i : tie.Need-mul-i Inv-loop μ-loop
 mul-i c = omega arith
@@ -62,12 +64,8 @@ loop-less c = omega arith
 
 loop-again : tie.Need-loop-again Inv-loop μ-loop
 loop-again c =
-    let at = c .before .before .before .loop in (
-      omega arith,
-      simp length-set (at .inv .1),
-      simp length-set (at .inv .2),
-      link-step _ _ _ _ _ (omega arith) (omega arith) (from-below (c .before .before)) (at .inv .3),
-    )
+    let at = c .before .before .before .loop in
+    (omega arith, simp length-set (at .inv .1), simp length-set (at .inv .2), rw (link-more _ _ _, ← at .inv .3))
 
 same-length : tie.Need-same-length Inv-loop μ-loop
 same-length c = omega arith
@@ -77,11 +75,11 @@ same-length-2 c = omega arith
 
 returns : tie.Need-returns Inv-loop μ-loop
 returns c =
-    let e : c .before .loop .e ≡ c .before .before .args .m = omega arith in
+    let e : c .before .loop .e ≡ length (c .before .before .args .froms .now) = omega arith in
     rw (← e) (c .before .loop .inv .3)
 
-pub link-spec : {M : Type 1} → statement M
-link-spec =
+pub link-all-spec : {M : Type 1} → statement M
+link-all-spec =
     tie.close
     (tie.spec
     Inv-loop

@@ -1,18 +1,22 @@
-use Prim.Native.Nat.{_-_}
-use mathlib.Core.Path.{refl}
+-- The places below i are written.
+use Prim.Native.Nat.{_-_, _≤_}
+use mathlib.Core.Path.{_≡_, refl, sym, ap, _∙_}
 use native.Mathlib.Omega.{arith}
-use Rattle.flow.specs.Walk.Filled.{Filled, filled-none, filled-more, filled-all}
-use Rattle.solver.proofs.fill.Statement.{statement}
-use Rattle.solver.proofs.fill.Tie as tie
+use lib.ListN.{length, length-set}
+use Rattle.worklist.specs.Worklist.{countDown}
+use Rattle.worklist.specs.Worklist.Stack.{count-more, count-long}
+use Rattle.worklist.proofs.count_down.Statement.{statement}
+use Rattle.worklist.proofs.count_down.Tie as tie
 
 abbrev Inv-loop : tie.InvT-loop
-Inv-loop stack₀ n i₀ stack i = Filled (λ j. n - 1 - j) n stack₀ stack i
+Inv-loop stack₀ n i₀ stack i = (i ≤ n) × (stack ≡ countDown n stack₀ i) × (length stack ≡ length stack₀)
 
 abbrev μ-loop : tie.MeasureT-loop
 μ-loop stack₀ n i₀ stack i = n - i
 
 loop-holds : tie.Need-loop-holds Inv-loop μ-loop
-loop-holds c = filled-none _ _ _
+unfolding countDown
+loop-holds c = (omega arith, refl, refl)
 
 sub-stack : tie.Need-sub-stack Inv-loop μ-loop
 sub-stack c = omega arith
@@ -36,16 +40,20 @@ loop-less : tie.Need-loop-less Inv-loop μ-loop
 loop-less c = omega arith
 
 loop-again : tie.Need-loop-again Inv-loop μ-loop
-loop-again c = filled-more _ _ _ _ _ _ (c .loop-test .taken) (omega arith) refl (c .before .loop .inv)
+loop-again c =
+    let at = c .before .loop in
+    (omega arith, rw (at .inv .1, count-more _ _ _), simp length-set (at .inv .2))
 
 same-length : tie.Need-same-length Inv-loop μ-loop
-same-length c = omega arith
+same-length c = c .before .loop .inv .2
 
 returns : tie.Need-returns Inv-loop μ-loop
-returns c = filled-all _ _ _ _ _ (omega arith) (c .before .loop .inv)
+returns c =
+    let e : c .before .loop .i ≡ c .before .before .args .n = omega arith in
+    c .before .loop .inv .1 ∙ ap (countDown (c .before .before .args .n) (c .before .before .args .stack .now)) e
 
-pub fill-spec : {M : Type 1} → statement M
-fill-spec =
+pub count-down-spec : {M : Type 1} → statement M
+count-down-spec =
     tie.close
     (tie.spec
     Inv-loop

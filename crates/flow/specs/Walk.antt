@@ -16,7 +16,7 @@ use lib.Dec.{eqb, ltb}
 use lib.ListN.{length, getD, set}
 use Rattle.sets.specs.Sets.{has, empty, all, join, common, without, add}
 use mathlib.Core.Logic.{_↔_}
-use Rattle.graph.specs.Graph.{Graph, isCheck, check, Acceptable, System, may, sure, Outs, Arrival, arriving, inSet, pastSet, outSet, Within, held}
+use Rattle.graph.specs.Graph.{Graph, privilegedBy, isCheck, check, Acceptable, System, may, sure, Outs, Arrival, arriving, inSet, pastSet, outSet, Within, held}
 use Rattle.graph.specs.Graph.Arrivals.{Arrives}
 use Rattle.worklist.specs.Worklist.{fresh, Stacked}
 
@@ -46,7 +46,7 @@ pastNum sure check past passes = cond passes (add past check) empty
 
 unfoldable pub transNum : (kind check privileged grants arrived past : ℕ) → ℕ
 transNum kind check privileged grants arrived past =
-    cond (eqb kind 2) (cond (eqb privileged 1) (cond (has grants check) arrived empty) past) arrived
+    cond (eqb kind 2) (cond (privilegedBy privileged check) (cond (has grants check) arrived empty) past) arrived
 
 unfoldable pub edgeNum : (way called moved into : ℕ) → ℕ
 edgeNum way called moved into = cond (eqb way 0) (common called into) moved

@@ -58,11 +58,12 @@ pub fn moved(kind: u8, check: u16, privileged: u8, grants: u64, arrived: u64, pa
     if kind != graph::KIND_CHECK {
         return arrived;
     }
-    if privileged != graph::MARKED {
+    let p = check as usize;
+    if !rules::is_privileged(privileged, p) {
         return past;
     }
     let own = Set { bits: grants };
-    if own.has(check as usize) {
+    if own.has(p) {
         return arrived;
     }
     Set::EMPTY.bits

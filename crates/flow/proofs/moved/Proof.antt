@@ -12,18 +12,21 @@ returns c = rw (ne-eqb _ 2 (c .if1 .taken))
 
 returns-2 : tie.Need-returns-2
 unfolding transNum
-returns-2 c = rw (eq-eqb _ 2 (c .before .if1 .left), ne-eqb _ 1 (c .if2 .taken))
+returns-2 c = rw (eq-eqb _ 2 (c .before .before .if1 .left), sym (c .before .is-privileged .ensures) ∙ not-true _ (c .if2 .taken))
+
+is-privileged-requires : tie.Need-is-privileged-requires
+is-privileged-requires c κs = search needs
 
 has-requires : tie.Need-has-requires
 has-requires c κs = search needs
 
 returns-3 : tie.Need-returns-3
 unfolding transNum
-returns-3 c = rw (eq-eqb _ 2 (c .before .before .before .if1 .left), eq-eqb _ 1 (c .before .before .if2 .left), sym (c .before .has .ensures) ∙ c .if3 .taken)
+returns-3 c = rw (eq-eqb _ 2 (c .before .before .before .before .if1 .left), sym (c .before .before .before .is-privileged .ensures) ∙ not-false _ (c .before .before .if2 .left), sym (c .before .has .ensures) ∙ c .if3 .taken)
 
 returns-4 : tie.Need-returns-4
 unfolding transNum
-returns-4 c = rw (eq-eqb _ 2 (c .before .before .before .if1 .left), eq-eqb _ 1 (c .before .before .if2 .left), sym (c .before .has .ensures) ∙ c .if3 .left) (sym empty-code)
+returns-4 c = rw (eq-eqb _ 2 (c .before .before .before .before .if1 .left), sym (c .before .before .before .is-privileged .ensures) ∙ not-false _ (c .before .before .if2 .left), sym (c .before .has .ensures) ∙ c .if3 .left) (sym empty-code)
 
 pub moved-spec : {M : Type 1} → statement M
-moved-spec = tie.close (tie.spec returns returns-2 has-requires returns-3 returns-4)
+moved-spec = tie.close (tie.spec returns is-privileged-requires returns-2 has-requires returns-3 returns-4)

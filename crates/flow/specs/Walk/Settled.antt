@@ -18,7 +18,6 @@ use Rattle.graph.specs.Graph.Rules.{from-low, check-low}
 use Rattle.graph.specs.Graph.Rule.{out-by-rule, out-rule-mono}
 use Rattle.graph.specs.Graph.Rounds.{LeastClosed, GreatestBacked}
 use Rattle.graph.specs.Graph.Solutions.{sure-mono}
-use Rattle.graph.specs.Graph.Code.{isCheck-code, check-code, entry-code, grants-code, from-code, to-code}
 use Rattle.flow.specs.Walk.{pastNum, judgedNum, carried, fromOf, toOf, counts, Toward, Closed, Setting, Good, Quiet}
 use Rattle.flow.specs.Walk.Sums.{has-carried, carried-toward, has-past-sure}
 
@@ -31,7 +30,7 @@ pub record Settled (g : Graph) (y : System) (w a s q l : List ℕ) : Type 0 wher
 
 -- an entry node has the mark's number
 marked : (g : Graph) (n : ℕ) → entry g n ≡ true → getD (g .nodes .entries) n 0 ≡ 1
-marked g n e = eqb-true _ 1 (sym (entry-code g n 0) ∙ e)
+marked g n e = eqb-true _ 1 e
 
 module _ (g : Graph) (w a s q l : List ℕ) (h : Settled g may w a s q l) where
   x-is : (e p : ℕ) → e < g .size .m → held l e p ≡ has (carried g may a s q e) p
@@ -41,9 +40,9 @@ module _ (g : Graph) (w a s q l : List ℕ) (h : Settled g may w a s q l) where
   ins n p u k t = go (in-may g (held l) n p .0 t)
     where
       by : (x : Arrival) → Arrives g n x → arriving g (held l) n x p ≡ true → has (getD s n 0) p ≡ true
-      by x (by-mark m) v = h .good .s-entry n p u k (marked g n m) (sym (grants-code g n p) ∙ sym (arriving-mark g (held l) n p) ∙ v)
+      by x (by-mark m) v = h .good .s-entry n p u k (marked g n m) (sym (arriving-mark g (held l) n p) ∙ v)
       by x (by-edge e o c) v =
-          let d : toOf g e ≡ n = sym (to-code g e) ∙ c in
+          let d : toOf g e ≡ n = c in
           rw d at (h .quiet e o .told p k (sym (x-is e p o) ∙ sym (arriving-edge g (held l) n e p) ∙ v))
 
       go : (x : Arrival) × Arrives g n x × (arriving g (held l) n x p ≡ true) → has (getD s n 0) p ≡ true
@@ -55,19 +54,19 @@ module _ (g : Graph) (w a s q l : List ℕ) (h : Settled g may w a s q l) where
     where
       by : (x : Arrival) → Arrives g n x → arriving g (held l) n x (check g n) ≡ true → arriving g (held l) n x p ≡ true → has (getD q n 0) p ≡ true
       by x (by-mark m) c v =
-          h .good .q-entry n p u k (marked g n m) (rw (check-code g n p) at (sym (grants-code g n (check g n)) ∙ sym (arriving-mark g (held l) n (check g n)) ∙ c))
-          (sym (grants-code g n p) ∙ sym (arriving-mark g (held l) n p) ∙ v)
+          h .good .q-entry n p u k (marked g n m) ((sym (arriving-mark g (held l) n (check g n)) ∙ c))
+          (sym (arriving-mark g (held l) n p) ∙ v)
       by x (by-edge e o j) c v =
-          let d : n ≡ toOf g e = sym j ∙ to-code g e in
-          let kind : eqb (getD (g .nodes .kinds) (toOf g e) 0) 2 ≡ true = rw d at (sym (isCheck-code g n p) ∙ i) in
-          let holds : has (carried g may a s q e) (getD (g .nodes .checks) n 0) ≡ true = rw (check-code g n p) at (sym (x-is e (check g n) o) ∙ sym (arriving-edge g (held l) n e (check g n)) ∙ c) in
+          let d : n ≡ toOf g e = sym j in
+          let kind : eqb (getD (g .nodes .kinds) (toOf g e) 0) 2 ≡ true = rw d at i in
+          let holds : has (carried g may a s q e) (getD (g .nodes .checks) n 0) ≡ true = (sym (x-is e (check g n) o) ∙ sym (arriving-edge g (held l) n e (check g n)) ∙ c) in
           let holds2 : has (carried g may a s q e) (getD (g .nodes .checks) (toOf g e) 0) ≡ true = rw d at holds in
           rw (sym d) at (h .quiet e o .told-past (both kind holds2) p k (sym (x-is e p o) ∙ sym (arriving-edge g (held l) n e p) ∙ v))
 
   -- what an edge carries, by the rule
   by-rule : (e p : ℕ) → e < g .size .m → held l e p ≡ outRule g e p (has (getD s (from g e) 0) p) (has (getD q (from g e) 0) p)
   unfolding pastNum
-  by-rule e p u = x-is e p u ∙ rw (from-code g e) (has-carried g may a s q e p)
+  by-rule e p u = x-is e p u ∙ has-carried g may a s q e p
 
   closed : Within g (outSet g (held l) may (held l)) (held l)
   closed e p u k t =
@@ -106,9 +105,9 @@ module _ (g : Graph) (w a s q l : List ℕ) (h : Settled g sure w a s q l) where
   ins′ n p u k t = in-sure g (held l) n p .1 by
     where
       by : (x : Arrival) → Arrives g n x → arriving g (held l) n x p ≡ true
-      by x (by-mark m) = arriving-mark g (held l) n p ∙ grants-code g n p ∙ h .good .s-entry n p u k (marked g n m) t
+      by x (by-mark m) = arriving-mark g (held l) n p ∙ h .good .s-entry n p u k (marked g n m) t
       by x (by-edge e o c) =
-          let d : toOf g e ≡ n = sym (to-code g e) ∙ c in
+          let d : toOf g e ≡ n = c in
           arriving-edge g (held l) n e p ∙ x-is′ e p o ∙ h .quiet e o .told p k (rw d t)
 
   -- all that passes the check n holds what the sum of it holds
@@ -116,12 +115,12 @@ module _ (g : Graph) (w a s q l : List ℕ) (h : Settled g sure w a s q l) where
       → (x : Arrival) → Arrives g n x → arriving g (held w) n x (check g n) ≡ true → arriving g (held l) n x p ≡ true
   unfolding judgedNum
   all-hold n p u k i t x (by-mark m) c =
-      arriving-mark g (held l) n p ∙ grants-code g n p
-      ∙ h .good .q-entry n p u k (marked g n m) (rw (check-code g n p) at (sym (grants-code g n (check g n)) ∙ sym (arriving-mark g (held w) n (check g n)) ∙ c)) t
+      arriving-mark g (held l) n p
+      ∙ h .good .q-entry n p u k (marked g n m) ((sym (arriving-mark g (held w) n (check g n)) ∙ c)) t
   all-hold n p u k i t x (by-edge e o j) c =
-      let d : n ≡ toOf g e = sym j ∙ to-code g e in
-      let kind : eqb (getD (g .nodes .kinds) (toOf g e) 0) 2 ≡ true = rw d at (sym (isCheck-code g n p) ∙ i) in
-      let holds : has (getD w e 0) (getD (g .nodes .checks) n 0) ≡ true = rw (check-code g n p) at (sym (arriving-edge g (held w) n e (check g n)) ∙ c) in
+      let d : n ≡ toOf g e = sym j in
+      let kind : eqb (getD (g .nodes .kinds) (toOf g e) 0) 2 ≡ true = rw d at i in
+      let holds : has (getD w e 0) (getD (g .nodes .checks) n 0) ≡ true = (sym (arriving-edge g (held w) n e (check g n)) ∙ c) in
       let holds2 : has (getD w e 0) (getD (g .nodes .checks) (toOf g e) 0) ≡ true = rw d at holds in
       arriving-edge g (held l) n e p ∙ x-is′ e p o ∙ h .quiet e o .told-past (both kind holds2) p k (rw d at t)
 
@@ -140,13 +139,13 @@ module _ (g : Graph) (w a s q l : List ℕ) (h : Settled g sure w a s q l) where
       by true e v =
           past-sure g (held w) (held l) n p .1
           (record {
-            passing = h .setting .any n u i .0 (rw (check-code g n p) e);
-            held-by-all = λ d. ⊎-elim (all-hold n p u k i) (λ o. absurd (d (sym (eqb-true c p (right (ltb c 64) (eqb c p) o)) ∙ sym (check-code g n p)))) (either (has (getD q n 0) p) (ltb c 64 && eqb c p) v);
+            passing = h .setting .any n u i .0 e;
+            held-by-all = λ d. ⊎-elim (all-hold n p u k i) (λ o. absurd (d (sym (eqb-true c p (right (ltb c 64) (eqb c p) o))))) (either (has (getD q n 0) p) (ltb c 64 && eqb c p) v);
           })
 
   by-rule′ : (e p : ℕ) → e < g .size .m → held l e p ≡ outRule g e p (has (getD s (from g e) 0) p) (has (past-num (from g e)) p)
   unfolding past-num
-  by-rule′ e p u = x-is′ e p u ∙ rw (from-code g e) (has-carried g sure a s q e p)
+  by-rule′ e p u = x-is′ e p u ∙ has-carried g sure a s q e p
 
   backed : Within g (held l) (outSet g (held w) sure (held l))
   backed e p u k t =

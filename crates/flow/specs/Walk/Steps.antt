@@ -16,7 +16,6 @@ use Rattle.truth.specs.Truth.Bools.{by-split, clash, both, left as and-left, ri
 use Rattle.sets.specs.Sets.{has}
 use Rattle.graph.specs.Graph.{Graph, to, System, may, sure}
 use Rattle.graph.specs.Graph.Rules.{to-low}
-use Rattle.graph.specs.Graph.Code.{to-code}
 use Rattle.worklist.specs.Worklist.{fresh}
 use Rattle.worklist.specs.Worklist.Stack.{put-stacked, fresh-so, fresh-unmarked}
 use Rattle.flow.specs.Walk.{merge, callNum, pastNum, transNum, edgeNum, carried, fromOf, toOf, counts, State, state, into, changes, changed, push, arrive, Toward, Setting, Good, Quiet, left, toDo, Sized, Sending}
@@ -91,7 +90,7 @@ module _ (g : Graph) (y : System) (w a : List ℕ) (setting : Setting g y w a) (
   ch = changed y (x .ins) (x .past) b v c
 
   bn : b < g .size .n
-  bn = rw (to-code g e) at (to-low g (setting .acc) e l)
+  bn = to-low g (setting .acc) e l
 
   small : b ≤ 65535
   small = omega (arith, bn, setting .acc .shape .ranges .n-high)

@@ -14,9 +14,10 @@ use Rattle.sets.specs.Sets.Order.{all-lt, without-lt}
 use Rattle.graph.specs.Graph.{callRule, Graph, privileged, grants, Acceptable, System, may, sure, Outs, inSet, callSet, deniedSet, grantedSet, Slices, held, Stored, Content}
 use Rattle.graph.specs.Graph.Rule.{call-by-rule}
 use Rattle.graph.specs.Graph.Rounds.{least-closed, greatest-backed}
-use Rattle.graph.specs.Graph.Code.{privileged-node, grants-code, denied-code, granted-code}
+use Rattle.graph.specs.Graph.Code.{denied-code, granted-code}
 use Rattle.flow.specs.Walk.{callNum, calledBy, carried, Good, NodesStored}
 use Rattle.flow.specs.Walk.Settled.{Settled, may-settled, may-ins, sure-settled, sure-ins}
+use Rattle.flow.specs.Walk.Sums.{has-called}
 use Rattle.flow.specs.Walk.Taken.{carried-lt}
 
 -- the out sets have no member at K or above
@@ -27,15 +28,6 @@ outs-stored g y w a s q l long h = record {
 }
 
 module _ (g : Graph) (acc : Acceptable g) (s : List ℕ) where
-  -- a node's call set, from its sum
-  has-called : (n p : ℕ) → has (calledBy (g .nodes .privileged) (g .nodes .grants) s n) p ≡ callRule g n p (has (getD s n 0) p)
-  unfolding callNum callRule
-  has-called n p = go (eqb (getD (g .nodes .privileged) n 0) 1) ∙ sym (rw (privileged-node g n p, grants-code g n p) refl)
-    where
-      go : (b : Bool) → has (cond b (getD (g .nodes .grants) n 0) (getD s n 0)) p ≡ cond b (has (getD (g .nodes .grants) n 0) p) (has (getD s n 0) p)
-      go true = refl
-      go false = refl
-
   called-lt : (n : ℕ) → n < g .size .n → getD s n 0 < 2 ^ g .size .k → calledBy (g .nodes .privileged) (g .nodes .grants) s n < 2 ^ g .size .k
   unfolding callNum
   called-lt n u h = go (eqb (getD (g .nodes .privileged) n 0) 1)
@@ -51,10 +43,10 @@ module _ (g : Graph) (any none s q m s′ q′ l den gra : List ℕ) (hm : Settl
   acc = hm .setting .acc
 
   may-call : (n p : ℕ) → n < g .size .n → p < g .size .k → has (calledBy (g .nodes .privileged) (g .nodes .grants) s n) p ≡ callSet g may (held m) n p
-  may-call n p u k = has-called g acc s n p ∙ ap (callRule g n p) (may-ins g none any s q m hm n p u k) ∙ sym (call-by-rule g may (held m) n p)
+  may-call n p u k = has-called g s n p ∙ ap (callRule g n p) (may-ins g none any s q m hm n p u k) ∙ sym (call-by-rule g may (held m) n p)
 
   sure-call : (n p : ℕ) → n < g .size .n → p < g .size .k → has (calledBy (g .nodes .privileged) (g .nodes .grants) s′ n) p ≡ callSet g sure (held l) n p
-  sure-call n p u k = has-called g acc s′ n p ∙ ap (callRule g n p) (sure-ins g m q s′ q′ l hs n p u k) ∙ sym (call-by-rule g sure (held l) n p)
+  sure-call n p u k = has-called g s′ n p ∙ ap (callRule g n p) (sure-ins g m q s′ q′ l hs n p u k) ∙ sym (call-by-rule g sure (held l) n p)
 
   pub walked-content : Content g (record { denied = den; granted = gra; mayOut = m; sureOut = l })
   walked-content = record {

@@ -1,6 +1,6 @@
 -- The sums of the nodes: what edges carry by them, how they begin, and what an arrival keeps of them.
 use Prim.Native.Nat.{ℕ, _≤_, _<_, _^_}
-use mathlib.Core.Path.{_≡_, refl, sym, _∙_, ap}
+use mathlib.Core.Path.{_≡_, refl, sym, _∙_, ap, ap₂}
 use mathlib.Core.List.{List}
 use mathlib.Core.Bool.{Bool, true, false, cond, _&&_, _||_}
 use mathlib.Core.Logic.{dite, ⊎-elim}
@@ -19,8 +19,8 @@ use Rattle.graph.specs.Graph.Arrivals.{Arrives, by-mark, by-edge, arriving-mark
 use Rattle.graph.specs.Graph.Edges.{in-may, in-sure, past-may, past-sure}
 use Rattle.graph.specs.Graph.Rules.{from-low, check-low}
 use Rattle.graph.specs.Graph.Rule.{out-by-rule, out-rule-mono}
-use Rattle.graph.specs.Graph.Code.{isCheck-code, check-code, privileged-node, entry-code, grants-code, from-code, to-code, isCall-code}
-use Rattle.flow.specs.Walk.{start, merge, callNum, pastNum, transNum, edgeNum, judgedNum, startIns, startPast, pastBy, carried, fromOf, toOf, counts, into, Begun, Toward, Closed, PastBelow, Setting, Good}
+use Rattle.graph.specs.Graph.Code.{privileged-code}
+use Rattle.flow.specs.Walk.{start, merge, callNum, pastNum, transNum, edgeNum, judgedNum, startIns, startPast, pastBy, calledBy, movedBy, carried, fromOf, toOf, counts, into, Begun, Toward, Closed, PastBelow, Setting, Good}
 use Rattle.flow.specs.Walk.Order.{toward-refl, toward-trans, merge-left, merge-both, merge-lt, start-lt, start-first}
 
 -- the trans set of a node that is no check
@@ -34,37 +34,45 @@ pick : (b : Bool) (x y p : ℕ) → has (cond b x y) p ≡ cond b (has x p) (has
 pick true x y p = refl
 pick false x y p = refl
 
--- it is what the rule of its kind gives from the sums of its from node
-pub has-carried : (g : Graph) (y : System) (a s q : List ℕ) (e p : ℕ)
-    → has (carried g y a s q e) p ≡ outRule g e p (has (getD s (fromOf g e) 0) p) (has (pastBy (g .nodes .checks) y a q (fromOf g e)) p)
-unfolding outRule callRule transRule edgeNum callNum transNum
-has-carried g y a s q e p =
-    go (eqb (getD (g .edges .ways) e 0) 0) (eqb (getD (g .nodes .privileged) n 0) 1) (eqb (getD (g .nodes .kinds) n 0) 2) (has (getD (g .nodes .grants) n 0) (getD (g .nodes .checks) n 0))
-    ∙ sym (rw (isCall-code g e, from-code g e, to-code g e) (rw (isCheck-code g n p, check-code g n p, privileged-node g n p, privileged-node g n (getD (g .nodes .checks) n 0), grants-code g n p, grants-code g n (getD (g .nodes .checks) n 0), grants-code g (getD (g .edges .tos) e 0) p) refl))
-  where
-    n : ℕ
-    n = fromOf g e
+-- call(n) and trans(n), by the sums of n, are what their rules give
+pub has-called : (g : Graph) (s : List ℕ) (n p : ℕ) → has (calledBy (g .nodes .privileged) (g .nodes .grants) s n) p ≡ callRule g n p (has (getD s n 0) p)
+unfolding callNum callRule
+has-called g s n p = rw (privileged-code (getD (g .nodes .privileged) n 0) p) (pick (eqb (getD (g .nodes .privileged) n 0) 1) (getD (g .nodes .grants) n 0) (getD s n 0) p)
 
+has-moved : (g : Graph) (y : System) (a s q : List ℕ) (n p : ℕ)
+    → has (movedBy (g .nodes .kinds) (g .nodes .checks) (g .nodes .privileged) (g .nodes .grants) y a s q n) p
+    ≡ transRule g n p (has (getD s n 0) p) (has (pastBy (g .nodes .checks) y a q n) p)
+unfolding transNum transRule
+has-moved g y a s q n p = go (isCheck g n) (privileged g n (check g n)) (grants g n (check g n))
+  where
     i : ℕ
     i = getD s n 0
-
-    o : ℕ
-    o = getD (g .nodes .grants) n 0
-
-    t : ℕ
-    t = getD (g .nodes .grants) (toOf g e) 0
 
     b : ℕ
     b = pastBy (g .nodes .checks) y a q n
 
-    go : (w v k h : Bool) → has (cond w (common (cond v o i) t) (cond k (cond v (cond h i empty) b) i)) p
-        ≡ cond w (cond v (has o p) (has i p) && has t p) (cond k (cond v (h && has i p) (has b p)) (has i p))
-    go true true k h = has-common o t p
-    go true false k h = has-common i t p
-    go false v false h = refl
-    go false false true h = refl
-    go false true true true = refl
-    go false true true false = has-empty p
+    go : (k v h : Bool) → has (cond k (cond v (cond h i empty) b) i) p ≡ cond k (cond v (h && has i p) (has b p)) (has i p)
+    go false v h = refl
+    go true false h = refl
+    go true true true = refl
+    go true true false = has-empty p
+
+-- what an edge carries is what the rule of its kind gives from the sums of its from node
+pub has-carried : (g : Graph) (y : System) (a s q : List ℕ) (e p : ℕ)
+    → has (carried g y a s q e) p ≡ outRule g e p (has (getD s (from g e) 0) p) (has (pastBy (g .nodes .checks) y a q (from g e)) p)
+unfolding outRule edgeNum
+has-carried g y a s q e p =
+    pick (isCall g e) (common c t) m p
+    ∙ ap₂ (cond (isCall g e)) (has-common c t p ∙ ap (λ (b : Bool). b && has t p) (has-called g s (from g e) p)) (has-moved g y a s q (from g e) p)
+  where
+    c : ℕ
+    c = calledBy (g .nodes .privileged) (g .nodes .grants) s (from g e)
+
+    m : ℕ
+    m = movedBy (g .nodes .kinds) (g .nodes .checks) (g .nodes .privileged) (g .nodes .grants) y a s q (from g e)
+
+    t : ℕ
+    t = getD (g .nodes .grants) (to g e) 0
 
 -- what SURE has past a check
 pub has-past-sure : (c q p : ℕ) (any : Bool) → has (pastNum sure c q any) p ≡ cond any (has q p || (ltb c 64 && eqb c p)) false
@@ -81,11 +89,11 @@ module _ (g : Graph) where
       λ t.
       let n = from g e in
       let low = from-low g (set .acc) e l in
-      let u : outRule g e p (has (getD s n 0) p) (has (getD q n 0) p) ≡ true = rw (from-code g e) (sym (has-carried g may a s q e p) ∙ t) in
+      let u : outRule g e p (has (getD s n 0) p) (has (getD q n 0) p) ≡ true = sym (has-carried g may a s q e p) ∙ t in
       closed e p l k (out-by-rule g z may z e p ∙ out-rule-mono g e p _ _ _ _ (good .s-below z closed n p low k) (λ _. good .q-below z closed n p low k) u)
   carried-toward sure w a s q set good z closed e p l k =
       λ t.
-      has-carried g sure a s q e p ∙ rw (sym (from-code g e)) (out-rule-mono g e p _ _ _ _ (good .s-below z closed n p low k) past (sym (out-by-rule g (held w) sure z e p) ∙ closed e p l k t))
+      has-carried g sure a s q e p ∙ out-rule-mono g e p _ _ _ _ (good .s-below z closed n p low k) past (sym (out-by-rule g (held w) sure z e p) ∙ closed e p l k t)
     where
       n : ℕ
       n = from g e
@@ -99,7 +107,7 @@ module _ (g : Graph) where
       past : isCheck g n ≡ true → pastSet g (held w) sure z n p ≡ true → has (pastNum sure c (getD q n 0) (has (getD a n 0) c)) p ≡ true
       past i t =
           let r = past-sure g (held w) z n p .0 t in
-          let e : check g n ≡ c = check-code g n p in
+          let e : check g n ≡ c = refl in
           let any : has (getD a n 0) c ≡ true = rw e at (set .any n low i .1 (r .passing)) in
           let c-low : c < g .size .k = rw e at (check-low g (set .acc) n low i) in
           has-past-sure c (getD q n 0) p (has (getD a n 0) c)
@@ -116,10 +124,10 @@ module _ (g : Graph) where
 
   -- the entry mark's out set is the node's grants
   mark-holds : (z : Outs) (n p : ℕ) → arriving g z n mark p ≡ has (getD (g .nodes .grants) n 0) p
-  mark-holds z n p = arriving-mark g z n p ∙ grants-code g n p
+  mark-holds z n p = arriving-mark g z n p
 
   mark-arrives : (n : ℕ) → getD (g .nodes .entries) n 0 ≡ 1 → Arrives g n mark
-  mark-arrives n e = by-mark (entry-code g n 0 ∙ eq-eqb _ 1 e)
+  mark-arrives n e = by-mark (eq-eqb _ 1 e)
 
   mark-toward : (y : System) (z : Outs) (n p : ℕ) → getD (g .nodes .entries) n 0 ≡ 1 → Toward y (has (getD (g .nodes .grants) n 0) p) (inSet g y z n p)
   mark-toward may z n p e = λ t. in-may g z n p .1 (mark, mark-arrives n e, mark-holds z n p ∙ t)
@@ -129,9 +137,9 @@ module _ (g : Graph) where
   mark-past : (y : System) (w : List ℕ) (z : Outs) (n p : ℕ) → getD (g .nodes .entries) n 0 ≡ 1 → has (getD (g .nodes .grants) n 0) (getD (g .nodes .checks) n 0) ≡ true
       → PastBelow g y w z n p (has (getD (g .nodes .grants) n 0) p)
   mark-past may w z n p e h =
-      λ t. past-may g z z n p .1 (mark, mark-arrives n e, rw (check-code g n p) (mark-holds z n (getD (g .nodes .checks) n 0) ∙ h), mark-holds z n p ∙ t)
+      λ t. past-may g z z n p .1 (mark, mark-arrives n e, mark-holds z n (getD (g .nodes .checks) n 0) ∙ h, mark-holds z n p ∙ t)
   mark-past sure w z n p e h =
-      λ f. sym (mark-holds z n p) ∙ f mark (mark-arrives n e) (rw (check-code g n p) (mark-holds (held w) n (getD (g .nodes .checks) n 0) ∙ h))
+      λ f. sym (mark-holds z n p) ∙ f mark (mark-arrives n e) (mark-holds (held w) n (getD (g .nodes .checks) n 0) ∙ h)
 
   start-past : (y : System) (w : List ℕ) (z : Outs) (n p : ℕ) → g .size .k ≤ 64 → p < g .size .k → PastBelow g y w z n p (has (start y (g .size .k)) p)
   start-past may w z n p h k = start-first may (g .size .k) p _ h k
@@ -175,7 +183,7 @@ set-holds P l b v h x n r = go (ℕ-discrete n b)
 
 module _ (g : Graph) (e p : ℕ) (l : e < g .size .m) (k : p < g .size .k) where
   edge-arrives : Arrives g (toOf g e) (edge e)
-  edge-arrives = by-edge e l (to-code g e)
+  edge-arrives = by-edge e l refl
 
   edge-toward : (y : System) (z : Outs) → Toward y (z e p) (inSet g y z (toOf g e) p)
   edge-toward may z = λ t. in-may g z (toOf g e) p .1 (edge e, edge-arrives, arriving-edge g z (toOf g e) e p ∙ t)
@@ -199,14 +207,14 @@ module _ (g : Graph) (e p : ℕ) (l : e < g .size .m) (k : p < g .size .k) where
           past-may g z z b p .1 (
             edge e,
             edge-arrives,
-            rw (check-code g b p) (arriving-edge g z b e (getD (g .nodes .checks) b 0) ∙ h (getD (g .nodes .checks) b 0) (below-members (g .size .k) v .0 low _ held-check) held-check),
+            (arriving-edge g z b e (getD (g .nodes .checks) b 0) ∙ h (getD (g .nodes .checks) b 0) (below-members (g .size .k) v .0 low _ held-check) held-check),
             arriving-edge g z b e p ∙ h p k t,
           )
   edge-past sure w z q v low h c f =
       λ all.
       has-common q v p
       ∙ both (f all)
-      (h p k (sym (arriving-edge g z b e p) ∙ all (edge e) edge-arrives (rw (check-code g b p) (arriving-edge g (held w) b e (getD (g .nodes .checks) b 0) ∙ right (eqb (getD (g .nodes .kinds) b 0) 2) (has (getD w e 0) (getD (g .nodes .checks) b 0)) c))))
+      (h p k (sym (arriving-edge g z b e p) ∙ all (edge e) edge-arrives ((arriving-edge g (held w) b e (getD (g .nodes .checks) b 0) ∙ right (eqb (getD (g .nodes .kinds) b 0) 2) (has (getD w e 0) (getD (g .nodes .checks) b 0)) c))))
     where
       b : ℕ
       b = toOf g e

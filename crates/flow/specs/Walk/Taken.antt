@@ -13,9 +13,8 @@ use Rattle.truth.specs.Truth.Bools.{by-split}
 use Rattle.sets.specs.Sets.{has, empty, common}
 use Rattle.sets.specs.Sets.Members.{below-members}
 use Rattle.sets.specs.Sets.Order.{empty-lt, common-lt, add-lt}
-use Rattle.graph.specs.Graph.{Graph, Acceptable, System, may, sure}
+use Rattle.graph.specs.Graph.{Graph, privilegedBy, Acceptable, System, may, sure}
 use Rattle.graph.specs.Graph.Rules.{from-low}
-use Rattle.graph.specs.Graph.Code.{from-code}
 use Rattle.worklist.specs.Worklist.{last, Linked, Lists, Links}
 use Rattle.worklist.specs.Worklist.Linking.{last-upper, last-own, last-le, links-linked}
 use Rattle.worklist.specs.Worklist.Stack.{take-stacked, none-stacked, all-stacked, zeros-none}
@@ -32,7 +31,7 @@ carried-lt g y w a s q acc good e l = by (eqb (getD (g .edges .ways) e 0) 0)
     n = fromOf g e
 
     low : n < g .size .n
-    low = rw (from-code g e) at (from-low g acc e l)
+    low = from-low g acc e l
 
     o : ℕ
     o = getD (g .nodes .grants) n 0
@@ -58,9 +57,9 @@ carried-lt g y w a s q acc good e l = by (eqb (getD (g .edges .ways) e 0) 0)
     moved true true false i = empty-lt (g .size .k)
     moved true false h i = past y (has (getD a n 0) c) (eqb-true (getD (g .nodes .kinds) n 0) 2 i) (good .q-low n low)
 
-    by : (b : Bool) → cond b (common (cond (eqb (getD (g .nodes .privileged) n 0) 1) o (getD s n 0)) (getD (g .nodes .grants) (toOf g e) 0)) (cond (eqb (getD (g .nodes .kinds) n 0) 2) (cond (eqb (getD (g .nodes .privileged) n 0) 1) (cond (has o c) (getD s n 0) empty) (pastNum y c (getD q n 0) (has (getD a n 0) c))) (getD s n 0)) < 2 ^ g .size .k
+    by : (b : Bool) → cond b (common (cond (eqb (getD (g .nodes .privileged) n 0) 1) o (getD s n 0)) (getD (g .nodes .grants) (toOf g e) 0)) (cond (eqb (getD (g .nodes .kinds) n 0) 2) (cond (privilegedBy (getD (g .nodes .privileged) n 0) c) (cond (has o c) (getD s n 0) empty) (pastNum y c (getD q n 0) (has (getD a n 0) c))) (getD s n 0)) < 2 ^ g .size .k
     by true = common-lt (g .size .k) _ _ (called (eqb (getD (g .nodes .privileged) n 0) 1))
-    by false = moved (eqb (getD (g .nodes .kinds) n 0) 2) (eqb (getD (g .nodes .privileged) n 0) 1) (has o c) refl
+    by false = moved (eqb (getD (g .nodes .kinds) n 0) 2) (privilegedBy (getD (g .nodes .privileged) n 0) c) (has o c) refl
 
 -- ---- all edges of a node are told
 
@@ -169,7 +168,7 @@ module _ (g : Graph) (y : System) (w a head prev : List ℕ) (setting : Setting 
   -- an empty stack: every edge is quiet
   pub rested : (x : State) → x .top ≡ 0 → Walking g y w a x → (e : ℕ) → e < g .size .m → Quiet g y w a (x .ins) (x .past) e
   rested x z h e l =
-      h .pending .quiet e l (none-stacked (g .size .n) (x .marks) (x .stack) (rw z at (h .stacked)) (fromOf g e) (rw (from-code g e) at (from-low g (setting .acc) e l)))
+      h .pending .quiet e l (none-stacked (g .size .n) (x .marks) (x .stack) (rw z at (h .stacked)) (fromOf g e) (from-low g (setting .acc) e l))
 
 -- the lists that are stored of an accepted graph hold its edges
 pub lists-linked : (g : Graph) (head prev : List ℕ) → Acceptable g → ((i : ℕ) → i < length head → getD head i 0 ≡ 0) → g .size .n ≤ length head → g .size .m ≤ length prev
@@ -186,7 +185,7 @@ pub walk-begins : (g : Graph) (y : System) (w a s q d st : List ℕ) → Accepta
 walk-begins g y w a s q d st acc b ls lq ld lst ones full = record {
   pending = record {
     good = begun-good g y acc w s q b;
-    quiet = λ e l o. absurd (omega (arith, o, ones (fromOf g e) (omega (arith, rw (from-code g e) at (from-low g acc e l)))));
+    quiet = λ e l o. absurd (omega (arith, o, ones (fromOf g e) (omega (arith, from-low g acc e l))));
   };
   stacked = all-stacked (g .size .n) d st (zeros-none d ones) lst full;
   sized = record { ins-long = ls; past-long = lq; marks-long = ld };

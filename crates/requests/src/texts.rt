@@ -205,10 +205,10 @@ fn print_reading(
     ways: &[u8; 4097],
 ) {
     match reading {
-        Reading::Graph { k, n, m } => print_graph(
-            k,
-            n,
-            m,
+        Reading::Graph(size) => print_graph(
+            size.k,
+            size.n,
+            size.m,
             kinds,
             checks,
             privileged,

@@ -3,17 +3,15 @@ pub mod Kept
 pub mod Parts
 pub mod Slots
 pub mod Ends
-pub mod Copies
 pub mod Laws
 pub mod Gateway
 use Prim.Native.Nat.{ℕ, zero, suc, _+_}
 use mathlib.Core.Path.{_≡_}
 use mathlib.Core.List.{List, [], _∷_, map}
-use mathlib.Core.Bool.{Bool, true, false, cond, _&&_}
+use mathlib.Core.Bool.{cond}
 use lib.ListN.{length}
-use lib.Seq.{sets}
-use lib.Dec.{eqb, ltb}
-use Rattle.graph.specs.Graph.{Graph, sizeOf, PerNode, PerEdge, nodesOf, edgesOf, mapNode, mapEdge, everyNode, everyEdge}
+use lib.Dec.{ltb}
+use Rattle.graph.specs.Graph.{Graph, sizeOf, PerNode, PerEdge, nodesOf, edgesOf}
 use Rattle.graph.specs.Refusals.{Numbered, _at_, numbered}
 use Rattle.graph.specs.Judge.{judge}
 use Rattle.graph.specs.declared.Refusal.{Refusal}
@@ -22,6 +20,7 @@ use Rattle.graph.specs.declared.Judged.the-variants as judged
 use Rattle.records.specs.declared.Node.{Node}
 use Rattle.records.specs.declared.Edge.{Edge}
 use Rattle.graph.specs.declared.Size.{Size}
+use Rattle.handover.specs.Handover.{Lent, roomy, NodesWritten, EdgesWritten}
 use Rattle.text.specs.declared.Reading.{Reading}
 use Rattle.text.specs.declared.Reading.the-variants as answer
 use Rattle.records.specs.Records.{Got, got, no, onGot, headerAt, nodeAt, edgeAt}
@@ -76,18 +75,6 @@ graphFrom k ns es = record { size = sizeOf k (length ns) (length es); nodes = no
 
 -- ---- The reader
 
--- The slices that a caller lends.
-pub record Lent : Type 0 where
-  pub nodes : PerNode (List ℕ)
-  pub edges : PerEdge (List ℕ)
-
-abbrev pub lentOf : (kinds checks privileged entries grants froms tos ways : List ℕ) → Lent
-lentOf kinds checks privileged entries grants froms tos ways = record { nodes = nodesOf kinds checks privileged entries grants; edges = edgesOf froms tos ways }
-
--- 1,024 places for what is a node's, 4,096 for what is an edge's.
-abbrev pub roomy : Lent → Bool
-roomy x = everyNode (mapNode (λ l. eqb l 1024) (mapNode length (x .nodes))) && everyEdge (mapEdge (λ l. eqb l 4096) (mapEdge length (x .edges)))
-
 -- What is read: a graph, or the refusal.
 pub data Outcome : Type 0 where
   read : (k : ℕ) → List Node → List Edge → Outcome
@@ -101,27 +88,26 @@ abbrev pub onMeaning : Meaning → Outcome
 onMeaning (wrong row) = refused (11 at row)
 onMeaning (says k ns es) = onJudged (judge (graphFrom k ns es)) k ns es
 
--- 12 for a text above 65,536 bytes, 11 for its rows, then 2 to 4 as the graph is judged.
-unfoldable pub outcome : List ℕ → Outcome
-outcome s = cond (ltb 65536 (length s)) (refused (12 at 0)) (onMeaning (textAt s 0 1))
+-- 12 for a text above 65,536 bytes, 11 for its rows, then 2 to 4 as the graph is judged. The text is read from a position on, and its first row
+-- there has this number.
+abbrev pub mostBytes : ℕ
+mostBytes = 65536
+
+unfoldable pub outcomeFrom : List ℕ → (from row : ℕ) → Outcome
+outcomeFrom s from row = cond (ltb mostBytes (length s)) (refused (12 at 0)) (onMeaning (textAt s from row))
 
 -- 1 for the slices' lengths comes first.
-unfoldable pub reading : Lent → List ℕ → Outcome
-reading x s = cond (roomy x) (outcome s) (refused (1 at 0))
+unfoldable pub readingFrom : Lent → List ℕ → (from row : ℕ) → Outcome
+readingFrom x s from row = cond (roomy x) (outcomeFrom s from row) (refused (1 at 0))
 
--- The first places hold what was written, and every other place what it held.
-pub record NodesWritten (before new after : PerNode (List ℕ)) : Type 0 where
-  pub kinds : after .kinds ≡ sets (before .kinds) 0 (new .kinds)
-  pub checks : after .checks ≡ sets (before .checks) 0 (new .checks)
-  pub privileged : after .privileged ≡ sets (before .privileged) 0 (new .privileged)
-  pub entries : after .entries ≡ sets (before .entries) 0 (new .entries)
-  pub grants : after .grants ≡ sets (before .grants) 0 (new .grants)
+-- The same for a whole text.
+abbrev pub outcome : List ℕ → Outcome
+outcome s = outcomeFrom s 0 1
 
-pub record EdgesWritten (before new after : PerEdge (List ℕ)) : Type 0 where
-  pub froms : after .froms ≡ sets (before .froms) 0 (new .froms)
-  pub tos : after .tos ≡ sets (before .tos) 0 (new .tos)
-  pub ways : after .ways ≡ sets (before .ways) 0 (new .ways)
+abbrev pub reading : Lent → List ℕ → Outcome
+reading x s = readingFrom x s 0 1
 
+-- The first places hold what the rows say, and every other place what it held.
 pub record Stores (before : Lent) (ns : List Node) (es : List Edge) (after : Lent) : Type 0 where
   pub nodes : NodesWritten (before .nodes) (nodeColumns ns) (after .nodes)
   pub edges : EdgesWritten (before .edges) (edgeColumns es) (after .edges)
@@ -129,5 +115,5 @@ pub record Stores (before : Lent) (ns : List Node) (es : List Edge) (after : Len
 -- The answer that says what is read, and what the slices hold after it: a refusal stores nothing.
 pub data Tells (o : Outcome) (before : Lent) : Reading → Lent → Type 0 where
   stored : {k : ℕ} {ns : List Node} {es : List Edge} {after : Lent} → o ≡ read k ns es → Stores before ns es after
-      → Tells o before (answer.Graph k (length ns) (length es)) after
+      → Tells o before (answer.Graph (sizeOf k (length ns) (length es))) after
   refuses : {r : Refusal} → o ≡ refused (numbered r) → Tells o before (answer.Refused r) before

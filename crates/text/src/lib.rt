@@ -1,24 +1,28 @@
-// Reads a text into the slices of a graph.
+// Reads the graph of a text into the slices that a caller lends.
 use graph::Judged;
+use graph::MOST_EDGES;
+use graph::MOST_NODES;
 use graph::Refusal;
 use graph::Size;
+use handover;
 use records::EdgeRow;
 use records::Header;
 use records::NodeRow;
 use shortcuts;
 ghost use mathlib.Core.Path.{_≡_};
 ghost use Prim.Native.Nat.{ℕ, _<_, _≤_};
-ghost use lib.ListN.{length, take};
-ghost use lib.Seq.{sets};
-ghost use Rattle.truth.specs.Truth.{Says};
-ghost use Rattle.graph.specs.Graph.{graphOf, nodesOf, edgesOf, mapNode, mapEdge, NodesLong, EdgesLong};
-ghost use Rattle.graph.specs.Judge.{Judges};
-ghost use Rattle.text.specs.Text.{lentOf, NodesWritten, EdgesWritten, onMeaning, textAt, reading, Tells};
-ghost use Rattle.text.specs.Text.Parts.{NodesRead, EdgesRead, tailFrom, TailRead, RestRead, Places, Room, Parses, heldGraph, Settles, SizesSo};
+ghost use lib.ListN.{length};
+ghost use Rattle.graph.specs.Graph.{nodesOf, edgesOf};
+ghost use Rattle.handover.specs.Handover.{lentOf, Room};
+ghost use Rattle.text.specs.Text.{onMeaning, textAt, readingFrom, reading, Tells};
+ghost use Rattle.text.specs.Text.Parts.{NodesRead, EdgesRead, tailFrom, TailRead, RestRead, Places, Parses, told, SizesSo};
 
-// The graph's counts, or why there is none.
+// A text has at most so many bytes.
+pub const MOST_BYTES: usize = 65536;
+
+// The graph's size, or why there is none.
 pub enum Reading {
-    Graph { k: usize, n: usize, m: usize },
+    Graph(Size),
     Refused(Refusal),
 }
 
@@ -94,7 +98,7 @@ enum Parsed {
 
 // The answer where the edge rows, the first of which has this number, ended so.
 fn end_text(ran: Ran, len: usize, row: usize, counts: Size) -> Parsed
-    requires { ⌜ (row ≤ 65536) × (counts .m ≤ 4096) × ((j : ℕ) → ran ≡ Ran.Stop j → j < counts .m) ⌝ }
+    requires { ⌜ (row ≤ 4294968320) × (counts .m ≤ 4096) × ((j : ℕ) → ran ≡ Ran.Stop j → j < counts .m) ⌝ }
     ensures { λ r. ⌜ r ≡ tailFrom ran len row counts ⌝ }
 {
     match ran {
@@ -118,7 +122,7 @@ fn parse_edges(
     row: usize,
     counts: Size,
 ) -> Parsed
-    requires { ⌜ ((row ≤ 65536) × (counts .m ≤ 4096)) × (counts .m ≤ length (now froms)) × (counts .m ≤ length (now tos)) × (counts .m ≤ length (now ways)) ⌝ }
+    requires { ⌜ ((row ≤ 4294968320) × (counts .m ≤ 4096)) × (counts .m ≤ length (now froms)) × (counts .m ≤ length (now tos)) × (counts .m ≤ length (now ways)) ⌝ }
     ensures { λ r. ⌜ TailRead (now (s .entry)) from row counts r (edgesOf (now (froms .entry)) (now (tos .entry)) (now (ways .entry))) (edgesOf (now (froms .exit)) (now (tos .exit)) (now (ways .exit))) ⌝ }
 {
     let ran = read_edges(froms, tos, ways, s, from, counts.m);
@@ -140,7 +144,7 @@ fn parse_rows(
     row: usize,
     counts: Size,
 ) -> Parsed
-    requires { ⌜ (row ≤ 1024) × Places counts (lentOf (now kinds) (now checks) (now privileged) (now entries) (now grants) (now froms) (now tos) (now ways)) ⌝ }
+    requires { ⌜ (row ≤ 4294967296) × Places counts (lentOf (now kinds) (now checks) (now privileged) (now entries) (now grants) (now froms) (now tos) (now ways)) ⌝ }
     ensures { λ r. ⌜ RestRead (now (s .entry)) from row counts r (lentOf (now (kinds .entry)) (now (checks .entry)) (now (privileged .entry)) (now (entries .entry)) (now (grants .entry)) (now (froms .entry)) (now (tos .entry)) (now (ways .entry))) (lentOf (now (kinds .exit)) (now (checks .exit)) (now (privileged .exit)) (now (entries .exit)) (now (grants .exit)) (now (froms .exit)) (now (tos .exit)) (now (ways .exit))) ⌝ }
 {
     let ran = read_nodes(
@@ -173,7 +177,7 @@ fn parse(
     from: usize,
     row: usize,
 ) -> Parsed
-    requires { ⌜ (row < 1024) × Room (lentOf (now kinds) (now checks) (now privileged) (now entries) (now grants) (now froms) (now tos) (now ways)) ⌝ }
+    requires { ⌜ (row < 4294967296) × Room (lentOf (now kinds) (now checks) (now privileged) (now entries) (now grants) (now froms) (now tos) (now ways)) ⌝ }
     ensures { λ r. ⌜ Parses (lentOf (now (kinds .entry)) (now (checks .entry)) (now (privileged .entry)) (now (entries .entry)) (now (grants .entry)) (now (froms .entry)) (now (tos .entry)) (now (ways .entry))) (now (s .entry)) from row r (lentOf (now (kinds .exit)) (now (checks .exit)) (now (privileged .exit)) (now (entries .exit)) (now (grants .exit)) (now (froms .exit)) (now (tos .exit)) (now (ways .exit))) ⌝ }
 {
     match records::read_header(s, from) {
@@ -195,158 +199,13 @@ fn parse(
     }
 }
 
-fn copy_u8(to: &mut [u8], from: &[u8], n: usize)
-    requires { ⌜ (n ≤ length (now from)) × (n ≤ length (now to)) ⌝ }
-    ensures { λ _. ⌜ now (to .exit) ≡ sets (now (to .entry)) 0 (take n (now (from .entry))) ⌝ }
+// The answer where the graph that was parsed was judged so.
+fn tell(judged: Judged, size: Size) -> Reading
+    ensures { λ r. ⌜ r ≡ told judged size ⌝ }
 {
-    let mut i: usize = 0;
-    while i < n {
-        to[i] = from[i];
-        i += 1;
-    }
-}
-
-fn copy_u16(to: &mut [u16], from: &[u16], n: usize)
-    requires { ⌜ (n ≤ length (now from)) × (n ≤ length (now to)) ⌝ }
-    ensures { λ _. ⌜ now (to .exit) ≡ sets (now (to .entry)) 0 (take n (now (from .entry))) ⌝ }
-{
-    let mut i: usize = 0;
-    while i < n {
-        to[i] = from[i];
-        i += 1;
-    }
-}
-
-fn copy_u64(to: &mut [u64], from: &[u64], n: usize)
-    requires { ⌜ (n ≤ length (now from)) × (n ≤ length (now to)) ⌝ }
-    ensures { λ _. ⌜ now (to .exit) ≡ sets (now (to .entry)) 0 (take n (now (from .entry))) ⌝ }
-{
-    let mut i: usize = 0;
-    while i < n {
-        to[i] = from[i];
-        i += 1;
-    }
-}
-
-// Hands over what was parsed of n nodes.
-fn store_nodes(
-    kinds: &mut [u8],
-    checks: &mut [u16],
-    privileged: &mut [u8],
-    entries: &mut [u8],
-    grants: &mut [u64],
-    ks: &[u8],
-    cs: &[u16],
-    ps: &[u8],
-    es: &[u8],
-    gs: &[u64],
-    n: usize,
-)
-    requires { ⌜ (n ≤ 1024) × NodesLong 1024 (nodesOf (length (now kinds)) (length (now checks)) (length (now privileged)) (length (now entries)) (length (now grants))) ⌝ }
-    requires { ⌜ NodesLong 1024 (nodesOf (length (now ks)) (length (now cs)) (length (now ps)) (length (now es)) (length (now gs))) ⌝ }
-    ensures { λ _. ⌜ NodesWritten (nodesOf (now (kinds .entry)) (now (checks .entry)) (now (privileged .entry)) (now (entries .entry)) (now (grants .entry))) (mapNode (take n) (nodesOf (now (ks .entry)) (now (cs .entry)) (now (ps .entry)) (now (es .entry)) (now (gs .entry)))) (nodesOf (now (kinds .exit)) (now (checks .exit)) (now (privileged .exit)) (now (entries .exit)) (now (grants .exit))) ⌝ }
-{
-    copy_u8(kinds, ks, n);
-    copy_u16(checks, cs, n);
-    copy_u8(privileged, ps, n);
-    copy_u8(entries, es, n);
-    copy_u64(grants, gs, n);
-}
-
-// Hands over what was parsed of m edges.
-fn store_edges(
-    froms: &mut [u16],
-    tos: &mut [u16],
-    ways: &mut [u8],
-    fs: &[u16],
-    ts: &[u16],
-    ws: &[u8],
-    m: usize,
-)
-    requires { ⌜ (m ≤ 4096) × EdgesLong 4096 (edgesOf (length (now froms)) (length (now tos)) (length (now ways))) ⌝ }
-    requires { ⌜ EdgesLong 4096 (edgesOf (length (now fs)) (length (now ts)) (length (now ws))) ⌝ }
-    ensures { λ _. ⌜ EdgesWritten (edgesOf (now (froms .entry)) (now (tos .entry)) (now (ways .entry))) (mapEdge (take m) (edgesOf (now (fs .entry)) (now (ts .entry)) (now (ws .entry)))) (edgesOf (now (froms .exit)) (now (tos .exit)) (now (ways .exit))) ⌝ }
-{
-    copy_u16(froms, fs, m);
-    copy_u16(tos, ts, m);
-    copy_u8(ways, ws, m);
-}
-
-// Judges the graph that was parsed.
-fn judge(
-    ks: &[u8],
-    cs: &[u16],
-    ps: &[u8],
-    es: &[u8],
-    gs: &[u64],
-    fs: &[u16],
-    ts: &[u16],
-    ws: &[u8],
-    counts: Size,
-) -> Judged
-    requires { ⌜ ((counts .n ≤ 1024) × (counts .m ≤ 4096)) × Room (lentOf (now ks) (now cs) (now ps) (now es) (now gs) (now fs) (now ts) (now ws)) ⌝ }
-    ensures { λ r. ⌜ Judges (heldGraph counts (lentOf (now (ks .entry)) (now (cs .entry)) (now (ps .entry)) (now (es .entry)) (now (gs .entry)) (now (fs .entry)) (now (ts .entry)) (now (ws .entry)))) r ⌝ }
-{
-    let n = counts.n;
-    let m = counts.m;
-    judge::check(
-        counts,
-        &ks[0..n],
-        &cs[0..n],
-        &ps[0..n],
-        &es[0..n],
-        &gs[0..n],
-        &fs[0..m],
-        &ts[0..m],
-        &ws[0..m],
-    )
-}
-
-// Hands the graph that was parsed over where it is accepted.
-fn settle(
-    kinds: &mut [u8],
-    checks: &mut [u16],
-    privileged: &mut [u8],
-    entries: &mut [u8],
-    grants: &mut [u64],
-    froms: &mut [u16],
-    tos: &mut [u16],
-    ways: &mut [u8],
-    ks: &[u8],
-    cs: &[u16],
-    ps: &[u8],
-    es: &[u8],
-    gs: &[u64],
-    fs: &[u16],
-    ts: &[u16],
-    ws: &[u8],
-    counts: Size,
-) -> Reading
-    requires { ⌜ ((counts .n ≤ 1024) × (counts .m ≤ 4096)) × Room (lentOf (now kinds) (now checks) (now privileged) (now entries) (now grants) (now froms) (now tos) (now ways)) × Room (lentOf (now ks) (now cs) (now ps) (now es) (now gs) (now fs) (now ts) (now ws)) ⌝ }
-    ensures { λ r. ⌜ Settles counts (lentOf (now (ks .entry)) (now (cs .entry)) (now (ps .entry)) (now (es .entry)) (now (gs .entry)) (now (fs .entry)) (now (ts .entry)) (now (ws .entry))) (lentOf (now (kinds .entry)) (now (checks .entry)) (now (privileged .entry)) (now (entries .entry)) (now (grants .entry)) (now (froms .entry)) (now (tos .entry)) (now (ways .entry))) r (lentOf (now (kinds .exit)) (now (checks .exit)) (now (privileged .exit)) (now (entries .exit)) (now (grants .exit)) (now (froms .exit)) (now (tos .exit)) (now (ways .exit))) ⌝ }
-{
-    let judged = judge(ks, cs, ps, es, gs, fs, ts, ws, counts);
-    if let Judged::Refused(why) = judged {
-        return Reading::Refused(why);
-    }
-    store_nodes(
-        kinds,
-        checks,
-        privileged,
-        entries,
-        grants,
-        ks,
-        cs,
-        ps,
-        es,
-        gs,
-        counts.n,
-    );
-    store_edges(froms, tos, ways, fs, ts, ws, counts.m);
-    Reading::Graph {
-        k: counts.k,
-        n: counts.n,
-        m: counts.m,
+    match judged {
+        Judged::Accepted => Reading::Graph(size),
+        Judged::Refused(why) => Reading::Refused(why),
     }
 }
 
@@ -361,18 +220,20 @@ fn read_sized(
     tos: &mut [u16],
     ways: &mut [u8],
     s: &[u8],
+    from: usize,
+    row: usize,
 ) -> Reading
-    requires { ⌜ Room (lentOf (now kinds) (now checks) (now privileged) (now entries) (now grants) (now froms) (now tos) (now ways)) ⌝ }
-    ensures { λ r. ⌜ Tells (onMeaning (textAt (now (s .entry)) 0 1)) (lentOf (now (kinds .entry)) (now (checks .entry)) (now (privileged .entry)) (now (entries .entry)) (now (grants .entry)) (now (froms .entry)) (now (tos .entry)) (now (ways .entry))) r (lentOf (now (kinds .exit)) (now (checks .exit)) (now (privileged .exit)) (now (entries .exit)) (now (grants .exit)) (now (froms .exit)) (now (tos .exit)) (now (ways .exit))) ⌝ }
+    requires { ⌜ (row < 4294967296) × Room (lentOf (now kinds) (now checks) (now privileged) (now entries) (now grants) (now froms) (now tos) (now ways)) ⌝ }
+    ensures { λ r. ⌜ Tells (onMeaning (textAt (now (s .entry)) from row)) (lentOf (now (kinds .entry)) (now (checks .entry)) (now (privileged .entry)) (now (entries .entry)) (now (grants .entry)) (now (froms .entry)) (now (tos .entry)) (now (ways .entry))) r (lentOf (now (kinds .exit)) (now (checks .exit)) (now (privileged .exit)) (now (entries .exit)) (now (grants .exit)) (now (froms .exit)) (now (tos .exit)) (now (ways .exit))) ⌝ }
 {
-    let mut ks = [0u8; 1024];
-    let mut cs = [0u16; 1024];
-    let mut ps = [0u8; 1024];
-    let mut es = [0u8; 1024];
-    let mut gs = [0u64; 1024];
-    let mut fs = [0u16; 4096];
-    let mut ts = [0u16; 4096];
-    let mut ws = [0u8; 4096];
+    let mut ks = [0u8; MOST_NODES];
+    let mut cs = [0u16; MOST_NODES];
+    let mut ps = [0u8; MOST_NODES];
+    let mut es = [0u8; MOST_NODES];
+    let mut gs = [0u64; MOST_NODES];
+    let mut fs = [0u16; MOST_EDGES];
+    let mut ts = [0u16; MOST_EDGES];
+    let mut ws = [0u8; MOST_EDGES];
     let parsed = parse(
         &mut ks,
         &mut cs,
@@ -383,30 +244,33 @@ fn read_sized(
         &mut ts,
         &mut ws,
         s,
-        0,
-        1,
+        from,
+        row,
     );
     match parsed {
-        Parsed::Wrong(row) => Reading::Refused(Refusal::Row(row)),
-        Parsed::Counted(counts) => settle(
-            kinds,
-            checks,
-            privileged,
-            entries,
-            grants,
-            froms,
-            tos,
-            ways,
-            &ks,
-            &cs,
-            &ps,
-            &es,
-            &gs,
-            &fs,
-            &ts,
-            &ws,
-            counts,
-        ),
+        Parsed::Wrong(place) => Reading::Refused(Refusal::Row(place)),
+        Parsed::Counted(size) => {
+            let judged = handover::hand_over(
+                size,
+                &ks,
+                &cs,
+                &ps,
+                &es,
+                &gs,
+                &fs,
+                &ts,
+                &ws,
+                kinds,
+                checks,
+                privileged,
+                entries,
+                grants,
+                froms,
+                tos,
+                ways,
+            );
+            tell(judged, size)
+        }
     }
 }
 
@@ -430,21 +294,21 @@ fn judge_sizes(
 ) -> Sizes
     ensures { λ r. ⌜ SizesSo (nodesOf kinds checks privileged entries grants) (edgesOf froms tos ways) text r ⌝ }
 {
-    if !rules::nodes_long(1024, kinds, checks, privileged, entries, grants) {
+    if !handover::has_room(kinds, checks, privileged, entries, grants, froms, tos, ways) {
         return Sizes::NoRoom;
     }
-    if !rules::edges_long(4096, froms, tos, ways) {
-        return Sizes::NoRoom;
-    }
-    if 65536 < text {
+    if MOST_BYTES < text {
         return Sizes::TooLong;
     }
     Sizes::Fit
 }
 
-// Reads a text into slices of 1,024 and 4,096 places: stores the graph in their first places, or refuses and stores nothing.
-pub fn read(
+// Reads the text from a position on, whose first row has this number, into slices of 1,024 and 4,096 places: stores the graph in their first places,
+// or refuses and stores nothing.
+pub fn read_from(
     text: &[u8],
+    from: usize,
+    row: u32,
     kinds: &mut [u8],
     checks: &mut [u16],
     privileged: &mut [u8],
@@ -454,7 +318,7 @@ pub fn read(
     tos: &mut [u16],
     ways: &mut [u8],
 ) -> Reading
-    ensures { λ r. ⌜ Tells (reading (lentOf (now (kinds .entry)) (now (checks .entry)) (now (privileged .entry)) (now (entries .entry)) (now (grants .entry)) (now (froms .entry)) (now (tos .entry)) (now (ways .entry))) (now (text .entry))) (lentOf (now (kinds .entry)) (now (checks .entry)) (now (privileged .entry)) (now (entries .entry)) (now (grants .entry)) (now (froms .entry)) (now (tos .entry)) (now (ways .entry))) r (lentOf (now (kinds .exit)) (now (checks .exit)) (now (privileged .exit)) (now (entries .exit)) (now (grants .exit)) (now (froms .exit)) (now (tos .exit)) (now (ways .exit))) ⌝ }
+    ensures { λ r. ⌜ Tells (readingFrom (lentOf (now (kinds .entry)) (now (checks .entry)) (now (privileged .entry)) (now (entries .entry)) (now (grants .entry)) (now (froms .entry)) (now (tos .entry)) (now (ways .entry))) (now (text .entry)) from row) (lentOf (now (kinds .entry)) (now (checks .entry)) (now (privileged .entry)) (now (entries .entry)) (now (grants .entry)) (now (froms .entry)) (now (tos .entry)) (now (ways .entry))) r (lentOf (now (kinds .exit)) (now (checks .exit)) (now (privileged .exit)) (now (entries .exit)) (now (grants .exit)) (now (froms .exit)) (now (tos .exit)) (now (ways .exit))) ⌝ }
 {
     let sizes = judge_sizes(
         kinds.len(),
@@ -480,6 +344,37 @@ pub fn read(
             tos,
             ways,
             text,
+            from,
+            row as usize,
         ),
     }
+}
+
+// Reads a whole text so.
+pub fn read(
+    text: &[u8],
+    kinds: &mut [u8],
+    checks: &mut [u16],
+    privileged: &mut [u8],
+    entries: &mut [u8],
+    grants: &mut [u64],
+    froms: &mut [u16],
+    tos: &mut [u16],
+    ways: &mut [u8],
+) -> Reading
+    ensures { λ r. ⌜ Tells (reading (lentOf (now (kinds .entry)) (now (checks .entry)) (now (privileged .entry)) (now (entries .entry)) (now (grants .entry)) (now (froms .entry)) (now (tos .entry)) (now (ways .entry))) (now (text .entry))) (lentOf (now (kinds .entry)) (now (checks .entry)) (now (privileged .entry)) (now (entries .entry)) (now (grants .entry)) (now (froms .entry)) (now (tos .entry)) (now (ways .entry))) r (lentOf (now (kinds .exit)) (now (checks .exit)) (now (privileged .exit)) (now (entries .exit)) (now (grants .exit)) (now (froms .exit)) (now (tos .exit)) (now (ways .exit))) ⌝ }
+{
+    read_from(
+        text,
+        0,
+        1,
+        kinds,
+        checks,
+        privileged,
+        entries,
+        grants,
+        froms,
+        tos,
+        ways,
+    )
 }

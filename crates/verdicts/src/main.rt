@@ -13,8 +13,7 @@ ghost use Prim.Native.Nat.{ℕ, _≤_, _<_};
 ghost use lib.ListN.{length};
 ghost use Rattle.graph.specs.Graph.{graphOf, Acceptable};
 ghost use Rattle.solver.specs.Solve.{ResultsLong};
-ghost use Rattle.text.specs.Text.{lentOf};
-ghost use Rattle.text.specs.Text.Parts.{heldGraph, Room};
+ghost use Rattle.handover.specs.Handover.{lentOf, heldGraph, Room};
 ghost use Rattle.verdicts.specs.Prints.{Prints, Answers};
 ghost use Rattle.verdicts.specs.Prints.Parts.{WritesRows};
 
@@ -124,9 +123,9 @@ fn answer(out: &mut [u8], text: &[u8]) -> Written
         &mut ways,
     );
     match reading {
-        Reading::Graph { k, n, m } => answer_graph(
+        Reading::Graph(size) => answer_graph(
             out,
-            Size { k: k, n: n, m: m },
+            size,
             &kinds,
             &checks,
             &privileged,

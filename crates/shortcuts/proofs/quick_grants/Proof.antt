@@ -1,3 +1,5 @@
+-- The grants read so far are a list that goes on at i; a turn adds a member, and the first byte that is no space ends it.
+use Prim.Native.Nat.{_+_, _≤_}
 use borrow.Author.Needs.{needs}
 use Prim.Native.Nat.{_-_}
 use native.Mathlib.Omega.{arith}
@@ -13,6 +15,18 @@ Inv-loop s at bits₀ low₀ i₀ bits low i = Granting s at i low bits
 abbrev μ-loop : tie.MeasureT-loop
 μ-loop s at bits₀ low₀ i₀ bits low i = length s - i
 
+-- Room is looked for at each turn, and every place that the turn reads lies within it.
+module _ (c : tie.Then1 Inv-loop μ-loop) where
+  abbrev start : tie.Start Inv-loop μ-loop
+  start = c .before .before .before .before
+
+  room : c .before .before .loop .i + 16 ≤ length (start .args .s .now)
+  room = says-true (c .before .has-room .ensures) (c .if1 .taken)
+
+-- a member that may stand there was found
+abbrev to-room : tie.Else4 Inv-loop μ-loop → tie.Then1 Inv-loop μ-loop
+to-room c = c .before .before .before .before
+
 loop-holds : tie.Need-loop-holds Inv-loop μ-loop
 loop-holds c = granting-start
 
@@ -20,7 +34,7 @@ has-room-requires : tie.Need-has-room-requires Inv-loop μ-loop
 has-room-requires c κs = search needs
 
 short-digits-requires : tie.Need-short-digits-requires Inv-loop μ-loop
-short-digits-requires c κs = omega (arith, says-true (c .before .has-room .ensures) (c .if1 .taken))
+short-digits-requires c κs = omega (arith, room c)
 
 returns : tie.Need-returns Inv-loop μ-loop
 returns c = unknown
@@ -38,25 +52,31 @@ add-low : tie.Need-add-low Inv-loop μ-loop
 add-low c = search needs
 
 add-e : tie.Need-add-e Inv-loop μ-loop
-add-e c = omega (arith, says-true (c .before .before .before .before .before .has-room .ensures) (c .before .before .before .before .if1 .taken))
+add-e c = omega (arith, room (to-room c))
 
 shared-slice-read-if5 : tie.Need-shared-slice-read-if5 Inv-loop μ-loop
-shared-slice-read-if5 c = omega (arith, says-true (c .before .before .before .before .before .before .has-room .ensures) (c .before .before .before .before .before .if1 .taken))
+shared-slice-read-if5 c = omega (arith, room (to-room (c .before)))
 
 end-grants-requires : tie.Need-end-grants-requires Inv-loop μ-loop
-end-grants-requires c κs = omega (arith, says-true (c .before .before .before .before .before .before .before .has-room .ensures) (c .before .before .before .before .before .before .if1 .taken))
+end-grants-requires c κs = omega (arith, room (to-room (c .before .before)))
 
 returns-4 : tie.Need-returns-4 Inv-loop μ-loop
-returns-4 c = granting-end (c .before .before .before .before .before .before .before .before .before .loop .inv) (c .before .before .before .before .before .before .short-digits .ensures) (c .before .before .before .before .before .if2 .left) (c .before .before .before .before .if3 .left) (omega (arith, c .before .before .before .if4 .left)) (c .end-grants .ensures)
+returns-4 c =
+    let found = c .before .before .before in
+    let turn = to-room found .before .before in
+    granting-end (turn .loop .inv) (found .before .before .before .short-digits .ensures) (found .before .before .if2 .left) (found .before .if3 .left) (omega (arith, found .if4 .left)) (c .end-grants .ensures)
 
 add-i : tie.Need-add-i Inv-loop μ-loop
-add-i c = omega (arith, says-true (c .before .before .before .before .before .before .before .has-room .ensures) (c .before .before .before .before .before .before .if1 .taken))
+add-i c = omega (arith, room (to-room (c .before .before)))
 
 loop-less : tie.Need-loop-less Inv-loop μ-loop
-loop-less c = omega (arith, says-true (c .before .before .before .before .before .before .before .has-room .ensures) (c .before .before .before .before .before .before .if1 .taken))
+loop-less c = omega (arith, room (to-room (c .before .before)))
 
 loop-again : tie.Need-loop-again Inv-loop μ-loop
-loop-again c = granting-next (c .before .before .before .before .before .before .before .before .loop .inv) (c .before .before .before .before .before .short-digits .ensures) (c .before .before .before .before .if2 .left) (c .before .before .before .if3 .left) (omega (arith, c .before .before .if4 .left)) (c .if5 .left)
+loop-again c =
+    let found = c .before .before in
+    let turn = to-room found .before .before in
+    granting-next (turn .loop .inv) (found .before .before .before .short-digits .ensures) (found .before .before .if2 .left) (found .before .if3 .left) (omega (arith, found .if4 .left)) (c .if5 .left)
 
 returns-5 : tie.Need-returns-5 Inv-loop μ-loop
 returns-5 c = unknown

@@ -1,4 +1,5 @@
-use mathlib.Core.Path.{sym, _∙_, ap}
+-- A wrong row is one of the M that were to be read, so that its number is known to fit.
+use mathlib.Core.Path.{sym, _∙_}
 use native.Mathlib.Omega.{arith}
 use Rattle.text.specs.Text.{edgeRow}
 use Rattle.text.specs.Text.Ends.{end-bound, tail-by}
@@ -6,13 +7,20 @@ use borrow.Author.Needs.{needs}
 use Rattle.text.proofs.parse_edges.Statement.{statement}
 use Rattle.text.proofs.parse_edges.Tie as tie
 
+-- what is known once the edge rows were read
+module _ (c : tie.After-read-edges) where
+  abbrev start : tie.Start
+  start = c .before .before .before .before .before .before .before .before
+
 read-edges-requires : tie.Need-read-edges-requires
 read-edges-requires c κs = search needs
 
 end-text-requires : tie.Need-end-text-requires
 end-text-requires c κs =
-    let a = c .before .before .before .before .before .before .before .before .before .before .before .before .before .before .args in
-    (c .before .before .before .before .before .before .before .before .before .before .before .before .before .before .pre .0 .0, c .before .before .before .before .before .before .before .before .before .before .before .before .before .before .pre .0 .1, λ j e. omega (arith, end-bound (edgeRow (a .s .now)) _ (a .from) 0 j (sym (c .before .before .before .before .before .before .read-edges .ensures .answer) ∙ e)))
+    let read = c .before .before .before .before .before .before in
+    let a = start read .args in
+    let p = start read .pre in
+    (p .0 .0, p .0 .1, λ j e. omega (arith, end-bound (edgeRow (a .s .now)) _ (a .from) 0 j (sym (read .read-edges .ensures .answer) ∙ e)))
 
 same-length : tie.Need-same-length
 same-length c = search needs

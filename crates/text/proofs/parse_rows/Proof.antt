@@ -1,10 +1,24 @@
-use mathlib.Core.Path.{sym, _∙_, ap}
+-- The node rows are read first. Where one is wrong no edge was stored, and its number is below N; else the edge rows follow where they end.
+use mathlib.Core.Path.{sym, _∙_}
 use native.Mathlib.Omega.{arith}
 use Rattle.text.specs.Text.Parts.{keptRow}
 use Rattle.text.specs.Text.Ends.{end-bound, rest-stop, edges-stop, rest-past, edges-past}
 use borrow.Author.Needs.{needs}
 use Rattle.text.proofs.parse_rows.Statement.{statement}
 use Rattle.text.proofs.parse_rows.Tie as tie
+
+-- what is known once the node rows were read
+module _ (c : tie.After-read-nodes) where
+  abbrev start : tie.Start
+  start = c .before .before .before .before .before .before .before .before .before .before .before .before .before .before .before
+
+-- ---- the way back from a place
+
+abbrev stop-to-read : tie.After-ran → tie.After-read-nodes
+stop-to-read c = c .before .before .before .before .before .before .before .before .before .before .before .before
+
+abbrev past-to-read : tie.After-ran2 → tie.After-read-nodes
+past-to-read c = c .before .before .before .before .before .before .before .before .before .before .before .before
 
 read-nodes-requires : tie.Need-read-nodes-requires
 read-nodes-requires c κs = search needs
@@ -14,19 +28,24 @@ enum-known-ran c = search needs
 
 add-t27 : tie.Need-add-t27
 add-t27 c =
-    let a = c .before .before .before .before .before .before .before .before .before .before .before .before .before .before .before .before .before .before .before .before .before .before .before .before .before .before .before .before .args in
-    omega (arith, c .before .before .before .before .before .before .before .before .before .before .before .before .before .before .before .before .before .before .before .before .before .before .before .before .before .before .before .before .pre .0, c .before .before .before .before .before .before .before .before .before .before .before .before .before .before .before .before .before .before .before .before .before .before .before .before .before .before .before .before .pre .1 .n-high, end-bound (keptRow (a .s .now)) (a .counts .n) (a .from) 0 _ (sym (c .before .before .before .before .before .before .before .before .before .before .before .before .before .read-nodes .ensures .answer) ∙ c .before .ran .given .1))
+    let read = stop-to-read (c .before) in
+    let a = start read .args in
+    let p = start read .pre in
+    omega (arith, p .0, p .1 .n-high, end-bound (keptRow (a .s .now)) (a .counts .n) (a .from) 0 _ (sym (read .read-nodes .ensures .answer) ∙ c .before .ran .given .1))
 
 enum-known-ran-2 : tie.Need-enum-known-ran-2
 enum-known-ran-2 c = search needs
 
 add-parse-edges : tie.Need-add-parse-edges
-add-parse-edges c = omega (arith, c .before .before .before .before .before .before .before .before .before .before .before .before .before .before .before .before .before .before .before .before .before .before .before .before .before .before .before .before .before .before .before .before .pre .0, c .before .before .before .before .before .before .before .before .before .before .before .before .before .before .before .before .before .before .before .before .before .before .before .before .before .before .before .before .before .before .before .before .pre .1 .n-high)
+add-parse-edges c =
+    let p = start (past-to-read (c .before .before .before .before .before)) .pre in
+    omega (arith, p .0, p .1 .n-high)
 
 parse-edges-requires : tie.Need-parse-edges-requires
 parse-edges-requires c κs =
-    let q = c .before .before .before .before .before .before .before .before .before .before .before .before .before .before .before .before .before .before .before .before .before .before .before .before .before .before .before .before .before .before .before .before .pre .1 in
-    ((omega (arith, c .before .before .before .before .before .before .before .before .before .before .before .before .before .before .before .before .before .before .before .before .before .before .before .before .before .before .before .before .before .before .before .before .pre .0, q .n-high), q .m-high), q .edges .froms, q .edges .tos, q .edges .ways)
+    let p = start (past-to-read (c .before .before .before .before .before)) .pre in
+    let q = p .1 in
+    ((omega (arith, p .0, q .n-high), q .m-high), q .edges .froms, q .edges .tos, q .edges .ways)
 
 same-length : tie.Need-same-length
 same-length c = search needs
@@ -45,8 +64,9 @@ same-length-5 c = search needs
 
 returns : tie.Need-returns
 returns c =
-    let a = c .before .before .before .before .before .before .before .before .before .before .before .before .before .before .before .before .before .before .before .before .before .before .before .before .before .before .before .before .args in
-    let r = c .before .before .before .before .before .before .before .before .before .before .before .before .before .read-nodes .ensures in
+    let read = stop-to-read (c .before) in
+    let a = start read .args in
+    let r = read .read-nodes .ensures in
     let e = sym (r .answer) ∙ c .before .ran .given .1 in
     let n = edges-stop (a .s .now) (a .from) (a .counts) e in
     record {
@@ -80,10 +100,13 @@ same-length-13 c = search needs
 
 returns-2 : tie.Need-returns-2
 returns-2 c =
-    let a = c .before .before .before .before .before .before .before .before .before .before .before .before .before .before .before .before .before .before .before .before .before .before .before .before .before .before .before .before .before .before .before .before .before .before .before .before .before .before .before .args in
-    let r = c .before .before .before .before .before .before .before .before .before .before .before .before .before .before .before .before .before .before .before .before .before .before .before .before .read-nodes .ensures in
-    let t = c .before .before .before .before .before .before .parse-edges .ensures in
-    let e = sym (r .answer) ∙ c .before .before .before .before .before .before .before .before .before .before .before .before .ran2 .given .1 in
+    let parsed = c .before .before .before .before .before .before in
+    let past = parsed .before .before .before .before .before .before in
+    let read = past-to-read past in
+    let a = start read .args in
+    let r = read .read-nodes .ensures in
+    let t = parsed .parse-edges .ensures in
+    let e = sym (r .answer) ∙ past .ran2 .given .1 in
     let n = edges-past (a .s .now) (a .from) (a .counts) e in
     record {
       answer = t .answer ∙ sym (rest-past (a .s .now) (a .from) (a .counts) _ e);

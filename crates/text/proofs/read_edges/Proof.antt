@@ -8,8 +8,13 @@ use borrow.Author.Needs.{needs}
 use Rattle.text.proofs.read_edges.Statement.{statement}
 use Rattle.text.proofs.read_edges.Tie as tie
 
+-- The rows from i on, read from p, end where all of them do, and each slice is on its way to what all of them say.
 abbrev Inv-loop : tie.InvT-loop
-Inv-loop froms₀ tos₀ ways₀ s from m p₀ i₀ froms tos ways p i = (endFrom (edgeRow s) (m - i) p i ≡ endFrom (edgeRow s) m from 0) × Slot (edgeRow s) (λ x. x .from) m from froms₀ froms p i × Slot (edgeRow s) (λ x. x .to) m from tos₀ tos p i × Slot (edgeRow s) (λ x. x .way) m from ways₀ ways p i
+Inv-loop froms₀ tos₀ ways₀ s from m p₀ i₀ froms tos ways p i =
+    (endFrom (edgeRow s) (m - i) p i ≡ endFrom (edgeRow s) m from 0)
+    × Slot (edgeRow s) (λ x. x .from) m from froms₀ froms p i
+    × Slot (edgeRow s) (λ x. x .to) m from tos₀ tos p i
+    × Slot (edgeRow s) (λ x. x .way) m from ways₀ ways p i
 
 abbrev μ-loop : tie.MeasureT-loop
 μ-loop froms₀ tos₀ ways₀ s from m p₀ i₀ froms tos ways p i = m - i

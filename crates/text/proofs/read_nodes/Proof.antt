@@ -1,18 +1,34 @@
+use Rattle.records.specs.declared.NodeRow.{NodeRow}
 use Rattle.records.specs.Records.{nodeAt}
 use Prim.Native.Nat.{_-_}
 use mathlib.Core.Path.{_≡_, sym, ap, _∙_}
 use native.Mathlib.Omega.{arith}
 use Rattle.text.specs.Text.Parts.{endFrom, keptRow}
-use Rattle.text.specs.Text.Slots.{Slot, end-start, end-out, end-stop, end-step, slot-start, slot-out, slot-stop, slot-step, node-told}
+use Rattle.text.specs.Text.Slots.{Slot, end-start, end-out, end-stop, end-step, slot-start, slot-out, slot-stop, slot-step, nodeRow, node-told}
 use borrow.Author.Needs.{needs}
 use Rattle.text.proofs.read_nodes.Statement.{statement}
 use Rattle.text.proofs.read_nodes.Tie as tie
 
+-- The rows from i on, read from p, end where all of them do, and each slice is on its way to what all of them say.
 abbrev Inv-loop : tie.InvT-loop
-Inv-loop kinds₀ checks₀ privileged₀ entries₀ grants₀ s from n p₀ i₀ kinds checks privileged entries grants p i = (endFrom (keptRow s) (n - i) p i ≡ endFrom (keptRow s) n from 0) × Slot (keptRow s) (λ x. x .kind) n from kinds₀ kinds p i × Slot (keptRow s) (λ x. x .check) n from checks₀ checks p i × Slot (keptRow s) (λ x. x .privileged) n from privileged₀ privileged p i × Slot (keptRow s) (λ x. x .entry) n from entries₀ entries p i × Slot (keptRow s) (λ x. x .grants) n from grants₀ grants p i
+Inv-loop kinds₀ checks₀ privileged₀ entries₀ grants₀ s from n p₀ i₀ kinds checks privileged entries grants p i =
+    (endFrom (keptRow s) (n - i) p i ≡ endFrom (keptRow s) n from 0)
+    × Slot (keptRow s) (λ x. x .kind) n from kinds₀ kinds p i
+    × Slot (keptRow s) (λ x. x .check) n from checks₀ checks p i
+    × Slot (keptRow s) (λ x. x .privileged) n from privileged₀ privileged p i
+    × Slot (keptRow s) (λ x. x .entry) n from entries₀ entries p i
+    × Slot (keptRow s) (λ x. x .grants) n from grants₀ grants p i
 
 abbrev μ-loop : tie.MeasureT-loop
 μ-loop kinds₀ checks₀ privileged₀ entries₀ grants₀ s from n p₀ i₀ kinds checks privileged entries grants p i = n - i
+
+-- the row that was read
+module _ (c : tie.After-read-node Inv-loop μ-loop) where
+  abbrev start : tie.Start Inv-loop μ-loop
+  start = c .before .before .before .before .before .before .before .before .before
+
+  row : {y : NodeRow} → c .read-node .result ≡ y → keptRow (start .args .s .now) (c .before .before .loop .p) (c .before .before .loop .i) ≡ nodeRow y
+  row e = node-told (nodeAt (start .args .s .now) (c .before .before .loop .p) (c .before .before .loop .i)) (sym (c .read-node .ensures) ∙ e)
 
 loop-holds : tie.Need-loop-holds Inv-loop μ-loop
 loop-holds c = (end-start _ _ _, slot-start _ _ _ _ _, slot-start _ _ _ _ _, slot-start _ _ _ _ _, slot-start _ _ _ _ _, slot-start _ _ _ _ _)
@@ -43,10 +59,10 @@ same-length-5 c = c .before .before .before .before .loop .inv .5 .long
 
 returns : tie.Need-returns Inv-loop μ-loop
 returns c =
-    let v = c .before .before .before .before .loop .inv in
-    let h = c .before .before .before .loop-test .taken in
-    let l = c .before .before .before .before .loop in
-    let w = node-told (nodeAt (c .before .before .before .before .before .before .before .before .before .before .before .args .s .now) (l .p) (l .i)) (sym (c .before .before .read-node .ensures) ∙ c .enum-told .given .1) in
+    let r = c .before .before in
+    let h = r .before .loop-test .taken in
+    let w = row r (c .enum-told .given .1) in
+    let v = r .before .before .loop .inv in
     record { answer = end-stop _ _ _ h w (v .0); so = record { kinds = slot-stop _ _ _ (v .1) h w; checks = slot-stop _ _ _ (v .2) h w; privileged = slot-stop _ _ _ (v .3) h w; entries = slot-stop _ _ _ (v .4) h w; grants = slot-stop _ _ _ (v .5) h w } }
 
 slice-write-kinds : tie.Need-slice-write-kinds Inv-loop μ-loop
@@ -81,8 +97,7 @@ loop-again c =
     let r = c .before .before .before in
     let h = r .before .loop-test .taken in
     let v = r .before .before .loop .inv in
-    let l = r .before .before .loop in
-    let w = node-told (nodeAt (c .before .before .before .before .before .before .before .before .before .before .before .before .args .s .now) (l .p) (l .i)) (sym (r .read-node .ensures) ∙ c .before .node .given .1) in
+    let w = row r (c .before .node .given .1) in
     (end-step _ _ _ h w (v .0), slot-step _ _ _ (v .1) h w, slot-step _ _ _ (v .2) h w, slot-step _ _ _ (v .3) h w, slot-step _ _ _ (v .4) h w, slot-step _ _ _ (v .5) h w)
 
 same-length-6 : tie.Need-same-length-6 Inv-loop μ-loop

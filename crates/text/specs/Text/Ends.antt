@@ -13,11 +13,12 @@ use Rattle.records.specs.declared.Edge.{Edge}
 use Rattle.graph.specs.declared.Size.{Size}
 use Rattle.records.specs.Records.{Got, got, no, headerAt, nodeAt, kept}
 use Rattle.records.specs.Records.Rows.{header-ranges}
+use Rattle.handover.specs.Handover.{Lent}
 use Rattle.text.specs.declared.Ran.{Ran}
 use Rattle.text.specs.declared.Ran.the-variants.{Past, Stop}
 use Rattle.text.specs.declared.Parsed.{Parsed}
 use Rattle.text.specs.declared.Parsed.the-variants.{Counted, Wrong}
-use Rattle.text.specs.Text.{Rows, rows, stop, onto, rowsAt, edgeRow, says, wrong, textAt, Lent, Stores}
+use Rattle.text.specs.Text.{Rows, rows, stop, onto, rowsAt, edgeRow, says, wrong, textAt, Stores}
 use Rattle.text.specs.Text.Kept.{keptAll}
 use Rattle.text.specs.Text.Parts.{rowsFrom, endFrom, keptRow, tailFrom, tailOf, restOf, edgesAfter, RestRead, Parses, counted, faulty}
 

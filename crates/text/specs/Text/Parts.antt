@@ -3,12 +3,10 @@ use Prim.Native.Nat.{ℕ, zero, suc, _+_, _≤_, _<_}
 use mathlib.Core.Path.{_≡_}
 use mathlib.Core.List.{List, [], _∷_, map}
 use mathlib.Core.Bool.{cond}
-use lib.ListN.{length, take}
-use lib.Seq.{sets}
+use lib.ListN.{length}
 use lib.Dec.{ltb}
-use Rattle.graph.specs.Graph.{Graph, PerNode, PerEdge, mapNode, mapEdge, EachNode, EachEdge, Ranges, NodesLong, EdgesLong}
-use Rattle.graph.specs.Judge.{Judges}
-use Rattle.graph.specs.declared.Refusal.{Refusal}
+use Rattle.graph.specs.Graph.{PerNode, PerEdge, EachNode, EachEdge, Ranges, NodesLong, EdgesLong}
+use Rattle.graph.specs.declared.Judged.{Judged}
 use Rattle.graph.specs.declared.Judged.the-variants as judged
 use Rattle.records.specs.declared.Node.{Node}
 use Rattle.records.specs.declared.Edge.{Edge}
@@ -23,7 +21,8 @@ use Rattle.text.specs.declared.Reading.the-variants as answer
 use Rattle.text.specs.declared.Parsed.{Parsed}
 use Rattle.text.specs.declared.Parsed.the-variants.{Counted, Wrong}
 use Rattle.text.specs.Text.Kept.{keptAll}
-use Rattle.text.specs.Text.{says, wrong, textAt, Lent, NodesWritten, EdgesWritten, Stores, edgeRow, nodeColumns, edgeColumns}
+use Rattle.handover.specs.Handover.{Lent, NodesWritten, EdgesWritten}
+use Rattle.text.specs.Text.{says, wrong, textAt, Stores, edgeRow, nodeColumns, edgeColumns}
 
 -- ---- rows, by what they say and by where they end
 
@@ -85,11 +84,6 @@ pub record Places (c : Size) (x : Lent) : Type 0 where
   pub nodes : EachNode (λ l. c .n ≤ length l) (x .nodes)
   pub edges : EachEdge (λ l. c .m ≤ length l) (x .edges)
 
--- slices as long as the reader's have to be
-pub record Room (x : Lent) : Type 0 where
-  pub nodes : NodesLong 1024 (mapNode length (x .nodes))
-  pub edges : EdgesLong 4096 (mapEdge length (x .edges))
-
 -- What the text means, with its nodes as they are kept.
 pub data Parses (before : Lent) (s : List ℕ) (from row : ℕ) : Parsed → Lent → Type 0 where
   counted : {c : Size} {ns : List Node} {es : List Edge} {after : Lent} → Ranges c → textAt s from row ≡ says (c .k) ns es → c .n ≡ length ns → c .m ≡ length es
@@ -98,21 +92,13 @@ pub data Parses (before : Lent) (s : List ℕ) (from row : ℕ) : Parsed → Len
 
 -- ---- what was parsed, judged and handed over
 
-abbrev pub heldGraph : Size → Lent → Graph
-heldGraph c x = record { size = c; nodes = mapNode (take (c .n)) (x .nodes); edges = mapEdge (take (c .m)) (x .edges) }
-
-pub record Copied (c : Size) (held before after : Lent) : Type 0 where
-  pub nodes : NodesWritten (before .nodes) (mapNode (take (c .n)) (held .nodes)) (after .nodes)
-  pub edges : EdgesWritten (before .edges) (mapEdge (take (c .m)) (held .edges)) (after .edges)
-
-pub data Settles (c : Size) (held before : Lent) : Reading → Lent → Type 0 where
-  settled : {after : Lent} → Judges (heldGraph c held) judged.Accepted → Copied c held before after
-      → Settles c held before (answer.Graph (c .k) (c .n) (c .m)) after
-  unsettled : {r : Refusal} → Judges (heldGraph c held) (judged.Refused r) → Settles c held before (answer.Refused r) before
+abbrev pub told : Judged → Size → Reading
+told judged.Accepted c = answer.Graph c
+told (judged.Refused r) c = answer.Refused r
 
 -- ---- the lengths of the slices and of the text
 
 pub data SizesSo (x : PerNode ℕ) (y : PerEdge ℕ) (text : ℕ) : Sizes → Type 0 where
   cramped : (NodesLong 1024 x × EdgesLong 4096 y → ⊥) → SizesSo x y text NoRoom
-  long : NodesLong 1024 x → EdgesLong 4096 y → 65536 < text → SizesSo x y text TooLong
-  fit : NodesLong 1024 x → EdgesLong 4096 y → text ≤ 65536 → SizesSo x y text Fit
+  long : NodesLong 1024 x × EdgesLong 4096 y → 65536 < text → SizesSo x y text TooLong
+  fit : NodesLong 1024 x × EdgesLong 4096 y → text ≤ 65536 → SizesSo x y text Fit

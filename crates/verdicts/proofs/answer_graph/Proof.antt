@@ -1,5 +1,5 @@
 use native.Mathlib.Omega.{arith}
-use Rattle.text.specs.Text.{lentOf}
+use Rattle.handover.specs.Handover.{lentOf}
 use Rattle.verdicts.specs.Prints.Laws.{accepted-lent, written-held, first-long}
 use borrow.Author.Needs.{needs}
 use Rattle.verdicts.proofs.answer_graph.Statement.{statement}

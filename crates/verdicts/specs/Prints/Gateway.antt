@@ -18,7 +18,7 @@ use Rattle.graph.specs.Judge.{judge, Judges}
 use Rattle.graph.specs.Judge.Laws.{judges-judge}
 use Rattle.graph.specs.declared.Judged.{Judged}
 use Rattle.graph.specs.declared.Judged.the-variants as judged
-use Rattle.text.specs.Text.{Outcome, onMeaning, onJudged, outcome, read, graphFrom}
+use Rattle.text.specs.Text.{Outcome, onMeaning, onJudged, outcomeFrom, outcome, read, graphFrom}
 use Rattle.text.specs.Text.Gateway.{gatewayText, gatewayNodes, gatewayEdges, gateway-means, gateway-graph}
 use Rattle.rows.specs.Result.{decimalBy, membersFrom, afterFirst, rowsFrom}
 use Rattle.verdicts.specs.Prints.{rowsOf, Prints, printed}
@@ -71,7 +71,7 @@ unfolding gatewayOutput decimalBy afterFirst rowsFrom
 rows = simp (none, zero-only, one-only, both, has-code, verdict-code .0, verdict-code .1)
 
 outcome-so : outcome gatewayText ≡ read 2 gatewayNodes gatewayEdges
-unfolding outcome gatewayText
+unfolding outcomeFrom gatewayText
 outcome-so =
     ap onMeaning gateway-means
     ∙ ap (λ (g : Graph). onJudged (judge g) 2 gatewayNodes gatewayEdges) gateway-graph

@@ -21,9 +21,9 @@ use Rattle.solver.specs.Solve.{slices, Solves, solved}
 use Rattle.solver.specs.Solve as solve
 use Rattle.solver.specs.Solve.Laws.{solves-one}
 use Rattle.text.specs.declared.Reading.the-variants as answer
-use Rattle.text.specs.Text.{Outcome, outcome, reading, read, nodeColumns, graphFrom, Lent, Stores, Tells, stored, refuses}
+use Rattle.handover.specs.Handover.{Lent, Room, heldGraph}
+use Rattle.text.specs.Text.{Outcome, outcomeFrom, outcome, reading, read, nodeColumns, graphFrom, Stores, Tells, stored, refuses}
 use Rattle.text.specs.Text as text
-use Rattle.text.specs.Text.Parts.{Room, heldGraph}
 use Rattle.text.specs.Text.Laws.{reading-roomy, outcome-accepted, stores-room, stored-held}
 use Rattle.rows.specs.declared.Written.{Written}
 use Rattle.rows.specs.declared.Written.the-variants as written
@@ -59,7 +59,7 @@ prints-one (printed e c) (printed f d) = printed-one (sym e ∙ f) c d
 
 -- every text has one
 prints-outcome : (s : List ℕ) (o : Outcome) → outcome s ≡ o → (b : List ℕ) × Prints s b
-prints-outcome s (read k ns es) e = let c = content-exists (graphFrom k ns es) (outcome-accepted s e) in (rowsOf (graphFrom k ns es) (c .0), printed e (c .1))
+prints-outcome s (read k ns es) e = let c = content-exists (graphFrom k ns es) (outcome-accepted s 0 1 e) in (rowsOf (graphFrom k ns es) (c .0), printed e (c .1))
 prints-outcome s (text.refused x) e = (refusalRow (x .number) (x .place), refused e)
 
 pub prints-exists : (s : List ℕ) → (b : List ℕ) × Prints s b
@@ -83,7 +83,7 @@ row-length number place =
 pub prints-short : {s b : List ℕ} → Prints s b → length b ≤ 440000
 prints-short (refused {x} e) = omega (arith, row-length (x .number) (x .place))
 prints-short {s} (printed {k = k} {ns = ns} {es = es} {t = t} e c) =
-    omega (arith, outcome-accepted s e .shape .ranges .n-high, result-short (nodeColumns ns .kinds) (nodeColumns ns .checks) (t .denied) (t .granted) (length ns))
+    omega (arith, outcome-accepted s 0 1 e .shape .ranges .n-high, result-short (nodeColumns ns .kinds) (nodeColumns ns .checks) (t .denied) (t .granted) (length ns))
 
 writes-low : {bytes before after : List ℕ} {n : ℕ} → Writes bytes before (Bytes n) after → n ≤ length before
 writes-low (written h) = h
@@ -108,7 +108,7 @@ answers-part {s} a = subst (Prints s) (sym (writes-part (a .writes))) (a .prints
 -- ---- a text above 65,536 bytes
 
 pub long-prints : (s : List ℕ) → 65536 < length s → Prints s (refusalRow 12 0)
-unfolding outcome
+unfolding outcomeFrom
 long-prints s h = refused {x = 12 at 0} (rw (lt-ltb 65536 (length s) h) refl)
 
 pub long-answers : {before after : List ℕ} {r : Written} → Writes (refusalRow 12 0) before r after → (s : List ℕ) → 65536 < length s → Answers s before r after
@@ -176,7 +176,7 @@ first-long n l h = ap (λ i. length (take i l)) (sub-zero n) ∙ length-take-le 
 
 module _ (before : Lent) (s : List ℕ) (room : Room before) where
   outcome-is : {o : Outcome} → reading before s ≡ o → outcome s ≡ o
-  outcome-is e = sym (reading-roomy before s room) ∙ e
+  outcome-is e = sym (reading-roomy before s 0 1 room) ∙ e
 
   pub refused-answers : {r : Refusal} {after : Lent} {q : Written} {b c : List ℕ} → Tells (reading before s) before (answer.Refused r) after → Writes (refusalBytes r) b q c → Answers s b q c
   refused-answers {r} (refuses e) w = record { bytes = refusalBytes r; prints = refused (outcome-is e); writes = w }
@@ -189,10 +189,10 @@ module _ (before : Lent) (s : List ℕ) (room : Room before) where
     pub acceptable : Acceptable (heldGraph size after)
     pub answers : (q : Written) (b c : List ℕ) → WritesRows (heldGraph size after) b q c → Answers s b q c
 
-  pub read-so : {k n m : ℕ} {after : Lent} → Tells (reading before s) before (answer.Graph k n m) after → ReadSo (sizeOf k n m) after
+  pub read-so : {size : Size} {after : Lent} → Tells (reading before s) before (answer.Graph size) after → ReadSo size after
   read-so (stored {k = k} {ns = ns} {es = es} e h) =
       let f = outcome-is e in
-      let acc = outcome-accepted s f in
+      let acc = outcome-accepted s 0 1 f in
       let same = stored-held k ns es room h (acc .shape .ranges .n-high) (acc .shape .ranges .m-high) in
       record {
         few = acc .shape .ranges .n-high;

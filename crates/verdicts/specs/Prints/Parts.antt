@@ -4,7 +4,7 @@ use mathlib.Core.List.{List}
 use lib.ListN.{take, drop}
 use Rattle.graph.specs.Graph.{Graph, mapNode, mapEdge, Slices, Content}
 use Rattle.graph.specs.declared.Size.{Size}
-use Rattle.text.specs.Text.{Lent}
+use Rattle.handover.specs.Handover.{Lent}
 use Rattle.rows.specs.declared.Written.{Written}
 use Rattle.rows.specs.Result.{Writes}
 use Rattle.verdicts.specs.Prints.{rowsOf}

@@ -4,9 +4,9 @@ use borrow.Author.Needs.{needs}
 use native.Mathlib.Omega.{arith}
 use lib.ListN.{length, take, drop, length-set}
 use lib.Seq.{sets}
-use Rattle.text.specs.Text.Copies.{copy-start, copy-out, copy-step}
-use Rattle.text.proofs.copy_u64.Statement.{statement}
-use Rattle.text.proofs.copy_u64.Tie as tie
+use Rattle.handover.specs.Handover.Copies.{copy-start, copy-out, copy-step}
+use Rattle.handover.proofs.copy_u16.Statement.{statement}
+use Rattle.handover.proofs.copy_u16.Tie as tie
 
 abbrev Inv-loop : tie.InvT-loop
 Inv-loop to₀ from n i₀ to i = (sets to i (take (n - i) (drop i from)) ≡ sets to₀ 0 (take n from)) × (length to ≡ length to₀)
@@ -47,8 +47,8 @@ same-length c = c .before .loop .inv .1
 returns : tie.Need-returns Inv-loop μ-loop
 returns c = sym (copy-out _ _ _ _ (c .loop-test .left)) ∙ c .before .loop .inv .0
 
-pub copy-u64-spec : {M : Type 1} → statement M
-copy-u64-spec =
+pub copy-u16-spec : {M : Type 1} → statement M
+copy-u16-spec =
     tie.close
     (tie.spec
     Inv-loop

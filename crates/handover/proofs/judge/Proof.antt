@@ -1,8 +1,8 @@
-use Rattle.text.specs.Text.{lentOf}
-use Rattle.text.specs.Text.Laws.{judged-held}
+use Rattle.handover.specs.Handover.{lentOf}
+use Rattle.handover.specs.Handover.Laws.{judged-held}
 use borrow.Author.Needs.{needs}
-use Rattle.text.proofs.judge.Statement.{statement}
-use Rattle.text.proofs.judge.Tie as tie
+use Rattle.handover.proofs.judge.Statement.{statement}
+use Rattle.handover.proofs.judge.Tie as tie
 
 sub-check : tie.Need-sub-check
 sub-check c = search needs
@@ -82,7 +82,7 @@ check-requires c κs = search needs
 returns : tie.Need-returns
 returns c =
     let a = c .before .before .before .before .before .before .before .before .before .before .before .before .before .before .before .before .before .args in
-    judged-held (lentOf (a .ks .now) (a .cs .now) (a .ps .now) (a .es .now) (a .gs .now) (a .fs .now) (a .ts .now) (a .ws .now)) (a .counts) (c .check .ensures)
+    judged-held (lentOf (a .ks .now) (a .cs .now) (a .ps .now) (a .es .now) (a .gs .now) (a .fs .now) (a .ts .now) (a .ws .now)) (a .size) (c .check .ensures)
 
 pub judge-spec : {M : Type 1} → statement M
 judge-spec =

@@ -1,24 +1,24 @@
 // Answers requests from standard input, so that another implementation can be compared from outside. docs/REQUESTS.md says what each
 // request asks for and how it is answered.
-mod answers;
 mod calls;
+mod graphs;
 mod numbers;
 mod show;
 mod texts;
 
 use libc::STDIN_FILENO;
-use numbers::digit;
+use numbers::at_most;
+use numbers::read_numbers;
 ghost use Prim.Native.Nat.{_≤_};
 ghost use lib.ListN.{length};
 
-fn count(head: &[u8; 7]) -> usize
+// The five digits after the letter.
+fn count(head: &[u8]) -> usize
     ensures { λ r. ⌜ r ≤ 99999 ⌝ }
 {
-    digit(head[1]) * 10000
-        + digit(head[2]) * 1000
-        + digit(head[3]) * 100
-        + digit(head[4]) * 10
-        + digit(head[5])
+    let mut one = [0usize];
+    read_numbers(&mut one, head);
+    at_most(one[0], 99999)
 }
 
 // How many of n bytes were there.
@@ -36,7 +36,7 @@ fn answer_letter(letter: u8, bytes: &[u8]) {
         texts::answer_lengths(bytes);
     }
     if letter == b'C' {
-        calls::answer_calls(bytes);
+        graphs::answer_calls(bytes);
     }
     if letter == b'N' {
         show::print(bytes);
@@ -58,7 +58,7 @@ fn serve(buffer: &mut [u8]) -> bool
     if io::read_full(STDIN_FILENO, &mut head) < 7 {
         return false;
     }
-    let n = count(&head);
+    let n = count(&head[1..6]);
     if read_bytes(buffer, n) < n {
         return false;
     }

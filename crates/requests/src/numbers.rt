@@ -15,74 +15,88 @@ pub(crate) fn plus(a: usize, b: usize) -> usize {
     a + b
 }
 
-pub(crate) fn digit(b: u8) -> usize
+fn digit(b: u8) -> usize
     ensures { λ r. ⌜ r ≤ 9 ⌝ }
 {
-    if b < 48 {
+    if b < b'0' {
         return 0;
     }
-    if 57 < b {
+    if b'9' < b {
         return 0;
     }
-    (b - 48) as usize
+    (b - b'0') as usize
 }
 
-// The number with one more digit at its end.
+// The number with one more digit at its end, or the largest number.
 fn append(n: usize, b: u8) -> usize {
-    if 1844674407370955161 < n {
+    if usize::MAX / 10 < n {
         return usize::MAX;
     }
     plus(n * 10, digit(b))
 }
 
-// The number from a place on, up to a space or the end.
-fn number(bytes: &[u8], from: usize) -> usize {
-    let mut value: usize = 0;
-    let mut i: usize = from;
-    while i < bytes.len() {
-        if bytes[i] == b' ' {
-            return value;
-        }
-        value = append(value, bytes[i]);
-        i += 1;
+fn put(numbers: &mut [usize], i: usize, n: usize) {
+    if i < numbers.len() {
+        numbers[i] = n;
     }
-    value
 }
 
-// The place after the next space, or the end.
-fn after_space(bytes: &[u8], from: usize) -> usize {
-    let mut i: usize = from;
-    while i < bytes.len() {
-        if bytes[i] == b' ' {
-            return i + 1;
-        }
-        i += 1;
+fn next_count(count: usize, b: u8) -> usize {
+    if b == b' ' {
+        return plus(count, 1);
     }
-    bytes.len()
+    count
 }
 
 // The place after so many spaces, or the end.
 pub(crate) fn after_spaces(bytes: &[u8], spaces: usize) -> usize {
-    let mut at: usize = 0;
-    let mut left = spaces;
-    while 0 < left {
-        at = after_space(bytes, at);
-        left -= 1;
+    let mut count: usize = 0;
+    let mut i: usize = 0;
+    while i < bytes.len() {
+        if count == spaces {
+            return i;
+        }
+        count = next_count(count, bytes[i]);
+        i += 1;
     }
-    at
+    i
 }
 
-// Stores the numbers that the bytes hold, as far as there is place, and answers how many.
-pub(crate) fn read_numbers(numbers: &mut [usize], bytes: &[u8]) -> usize {
-    let mut at: usize = 0;
+fn next_value(value: usize, b: u8) -> usize {
+    if b == b' ' {
+        return 0;
+    }
+    append(value, b)
+}
+
+// Stores the numbers that the bytes hold, one space between, as far as there is place, and answers how many spaces there are.
+fn store_numbers(numbers: &mut [usize], bytes: &[u8]) -> usize {
     let mut count: usize = 0;
-    while count < numbers.len() {
-        if bytes.len() <= at {
-            return count;
-        }
-        numbers[count] = number(bytes, at);
-        at = after_space(bytes, at);
-        count += 1;
+    let mut value: usize = 0;
+    let mut i: usize = 0;
+    while i < bytes.len() {
+        count = next_count(count, bytes[i]);
+        value = next_value(value, bytes[i]);
+        put(numbers, count, value);
+        i += 1;
+    }
+    count
+}
+
+// A space at the end has no number after it.
+fn ends_in_number(bytes: &[u8]) -> bool {
+    let n = bytes.len();
+    if n == 0 {
+        return false;
+    }
+    bytes[n - 1] != b' '
+}
+
+// Stores the numbers that the bytes hold as far as there is place, and answers how many they are.
+pub(crate) fn read_numbers(numbers: &mut [usize], bytes: &[u8]) -> usize {
+    let count = store_numbers(numbers, bytes);
+    if ends_in_number(bytes) {
+        return plus(count, 1);
     }
     count
 }
@@ -95,19 +109,12 @@ pub(crate) fn peek(numbers: &[usize], i: usize) -> usize {
     0
 }
 
-fn peek_u8(numbers: &[usize], i: usize) -> u8 {
-    (peek(numbers, i) % 256) as u8
+// A list is its length and so many numbers.
+pub(crate) fn after_list(numbers: &[usize], at: usize) -> usize {
+    plus(at, plus(peek(numbers, at), 1))
 }
 
-fn peek_u16(numbers: &[usize], i: usize) -> u16 {
-    (peek(numbers, i) % 65536) as u16
-}
-
-fn peek_u64(numbers: &[usize], i: usize) -> u64 {
-    peek(numbers, i) as u64
-}
-
-// Stores the list at a place, which is its length and so many numbers, as far as it fits, and answers how many numbers that is.
+// Stores the list at a place as far as it fits, and answers how many numbers that is.
 pub(crate) fn fill_u8(to: &mut [u8], numbers: &[usize], at: usize) -> usize {
     let count = peek(numbers, at);
     let first = plus(at, 1);
@@ -116,7 +123,7 @@ pub(crate) fn fill_u8(to: &mut [u8], numbers: &[usize], at: usize) -> usize {
         if i == count {
             return i;
         }
-        to[i] = peek_u8(numbers, plus(first, i));
+        to[i] = (peek(numbers, plus(first, i)) % 256) as u8;
         i += 1;
     }
     i
@@ -130,7 +137,7 @@ pub(crate) fn fill_u16(to: &mut [u16], numbers: &[usize], at: usize) -> usize {
         if i == count {
             return i;
         }
-        to[i] = peek_u16(numbers, plus(first, i));
+        to[i] = (peek(numbers, plus(first, i)) % 65536) as u16;
         i += 1;
     }
     i
@@ -144,7 +151,7 @@ pub(crate) fn fill_u64(to: &mut [u64], numbers: &[usize], at: usize) -> usize {
         if i == count {
             return i;
         }
-        to[i] = peek_u64(numbers, plus(first, i));
+        to[i] = peek(numbers, plus(first, i)) as u64;
         i += 1;
     }
     i

@@ -1,4 +1,5 @@
 // The words, numbers and rows of answers, and whether what was lent was kept.
+use super::numbers::at_most;
 use graph::Refusal;
 use libc::STDOUT_FILENO;
 
@@ -54,13 +55,18 @@ fn print_place(i: usize, n: u64) {
     print_decimal(n);
 }
 
-pub(crate) fn print_u64s(s: &[u64]) {
+fn print_u64s(s: &[u64]) {
     let mut i: usize = 0;
     while i < s.len() {
         print_place(i, s[i]);
         i += 1;
     }
     print(b"\n");
+}
+
+pub(crate) fn print_first_u64s(s: &[u64], count: usize) {
+    let n = at_most(count, s.len());
+    print_u64s(&s[0..n]);
 }
 
 fn wide(x: u16) -> u64 {

@@ -1,7 +1,6 @@
 // The reader's answers: the graph as rows of the text, or the refusal.
 use super::numbers::after_spaces;
 use super::numbers::at_most;
-use super::numbers::peek;
 use super::numbers::read_numbers;
 use super::show::BLANK_U8;
 use super::show::BLANK_U16;
@@ -15,6 +14,7 @@ use super::show::print_number;
 use super::show::print_refusal;
 use super::show::print_unless_kept;
 use text::Reading;
+ghost use Prim.Native.Nat.{_≤_};
 
 fn print_set(bits: u64) {
     let mut rest = bits;
@@ -237,7 +237,20 @@ fn print_reading(
 }
 
 // Reads a text into slices of the given lengths, in the order of the call.
-fn answer_lent(text: &[u8], lengths: &[usize; 8]) {
+fn answer_lent(
+    text: &[u8],
+    a: usize,
+    b: usize,
+    c: usize,
+    d: usize,
+    e: usize,
+    f: usize,
+    g: usize,
+    h: usize,
+)
+    requires { ⌜ (a ≤ 1025) × (b ≤ 1025) × (c ≤ 1025) × (d ≤ 1025) × (e ≤ 1025) ⌝ }
+    requires { ⌜ (f ≤ 4097) × (g ≤ 4097) × (h ≤ 4097) ⌝ }
+{
     let mut kinds = [BLANK_U8; 1025];
     let mut checks = [BLANK_U16; 1025];
     let mut privileged = [BLANK_U8; 1025];
@@ -246,14 +259,6 @@ fn answer_lent(text: &[u8], lengths: &[usize; 8]) {
     let mut froms = [BLANK_U16; 4097];
     let mut tos = [BLANK_U16; 4097];
     let mut ways = [BLANK_U8; 4097];
-    let a = at_most(lengths[0], 1025);
-    let b = at_most(lengths[1], 1025);
-    let c = at_most(lengths[2], 1025);
-    let d = at_most(lengths[3], 1025);
-    let e = at_most(lengths[4], 1025);
-    let f = at_most(lengths[5], 4097);
-    let g = at_most(lengths[6], 4097);
-    let h = at_most(lengths[7], 4097);
     let reading = text::read(
         text,
         &mut kinds[0..a],
@@ -280,15 +285,24 @@ fn answer_lent(text: &[u8], lengths: &[usize; 8]) {
 
 // Answers T.
 pub(crate) fn answer_text(text: &[u8]) {
-    let lengths: [usize; 8] = [1024, 1024, 1024, 1024, 1024, 4096, 4096, 4096];
-    answer_lent(text, &lengths);
+    answer_lent(text, 1024, 1024, 1024, 1024, 1024, 4096, 4096, 4096);
 }
 
 // Answers L.
 pub(crate) fn answer_lengths(bytes: &[u8]) {
     let mut lengths = [0usize; 8];
     read_numbers(&mut lengths, bytes);
-    let from = at_most(after_spaces(bytes, 8), bytes.len());
     let end = bytes.len();
-    answer_lent(&bytes[from..end], &lengths);
+    let from = at_most(after_spaces(bytes, 8), end);
+    answer_lent(
+        &bytes[from..end],
+        at_most(lengths[0], 1025),
+        at_most(lengths[1], 1025),
+        at_most(lengths[2], 1025),
+        at_most(lengths[3], 1025),
+        at_most(lengths[4], 1025),
+        at_most(lengths[5], 4097),
+        at_most(lengths[6], 4097),
+        at_most(lengths[7], 4097),
+    );
 }

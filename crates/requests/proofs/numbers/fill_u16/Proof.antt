@@ -29,8 +29,11 @@ returns c = search needs
 plus-requires-2 : tie.Need-plus-requires-2 Inv-loop μ-loop
 plus-requires-2 c κs = search needs
 
-peek-u16-requires : tie.Need-peek-u16-requires Inv-loop μ-loop
-peek-u16-requires c κs = search needs
+peek-requires-2 : tie.Need-peek-requires-2 Inv-loop μ-loop
+peek-requires-2 c κs = search needs
+
+cast-to : tie.Need-cast-to Inv-loop μ-loop
+cast-to c = search needs
 
 mul-to : tie.Need-mul-to Inv-loop μ-loop
 mul-to c = search needs
@@ -65,7 +68,8 @@ fill-u16-spec =
     same-length
     returns
     plus-requires-2
-    peek-u16-requires
+    peek-requires-2
+    cast-to
     mul-to
     slice-write-to
     add-i

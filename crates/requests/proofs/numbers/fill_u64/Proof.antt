@@ -29,8 +29,8 @@ returns c = search needs
 plus-requires-2 : tie.Need-plus-requires-2 Inv-loop μ-loop
 plus-requires-2 c κs = search needs
 
-peek-u64-requires : tie.Need-peek-u64-requires Inv-loop μ-loop
-peek-u64-requires c κs = search needs
+peek-requires-2 : tie.Need-peek-requires-2 Inv-loop μ-loop
+peek-requires-2 c κs = search needs
 
 mul-to : tie.Need-mul-to Inv-loop μ-loop
 mul-to c = search needs
@@ -65,7 +65,7 @@ fill-u64-spec =
     same-length
     returns
     plus-requires-2
-    peek-u64-requires
+    peek-requires-2
     mul-to
     slice-write-to
     add-i

@@ -29,8 +29,11 @@ returns c = search needs
 plus-requires-2 : tie.Need-plus-requires-2 Inv-loop μ-loop
 plus-requires-2 c κs = search needs
 
-peek-u8-requires : tie.Need-peek-u8-requires Inv-loop μ-loop
-peek-u8-requires c κs = search needs
+peek-requires-2 : tie.Need-peek-requires-2 Inv-loop μ-loop
+peek-requires-2 c κs = search needs
+
+cast-to : tie.Need-cast-to Inv-loop μ-loop
+cast-to c = search needs
 
 slice-write-to : tie.Need-slice-write-to Inv-loop μ-loop
 slice-write-to c = search needs
@@ -62,7 +65,8 @@ fill-u8-spec =
     same-length
     returns
     plus-requires-2
-    peek-u8-requires
+    peek-requires-2
+    cast-to
     slice-write-to
     add-i
     loop-less

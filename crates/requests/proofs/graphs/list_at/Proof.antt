@@ -1,6 +1,6 @@
 use borrow.Author.Needs.{needs}
-use Rattle.requests.proofs.calls.list_at.Statement.{statement}
-use Rattle.requests.proofs.calls.list_at.Tie as tie
+use Rattle.requests.proofs.graphs.list_at.Statement.{statement}
+use Rattle.requests.proofs.graphs.list_at.Tie as tie
 
 abbrev Inv-loop : tie.InvT-loop
 Inv-loop numbers list at₀ left₀ at left = Unit {0}

@@ -1,14 +1,14 @@
 use native.Mathlib.Omega.{arith}
-use Rattle.verdicts.specs.Prints.Laws.{long-low, long-part, long-fit}
+use Rattle.answer.specs.Prints.Laws.{long-answers, long-low, long-part, long-fit}
 use borrow.Author.Needs.{needs}
 use Rattle.verdicts.proofs.print_too_long.Statement.{statement}
 use Rattle.verdicts.proofs.print_too_long.Tie as tie
 
-slice-aggregate-answer-too-long : tie.Need-slice-aggregate-answer-too-long
-slice-aggregate-answer-too-long c = search needs
+slice-aggregate-write-refusal : tie.Need-slice-aggregate-write-refusal
+slice-aggregate-write-refusal c = search needs
 
-answer-too-long-requires : tie.Need-answer-too-long-requires
-answer-too-long-requires c κs = search needs
+write-refusal-requires : tie.Need-write-refusal-requires
+write-refusal-requires c κs = search needs
 
 enum-known-count : tie.Need-enum-known-count
 enum-known-count c = search needs
@@ -17,7 +17,9 @@ enum-told : tie.Need-enum-told
 enum-told c = search needs
 
 never-requires : tie.Need-never-requires
-never-requires c κs = long-fit (rw (c .enum-told .given .1) at (c .before .before .before .answer-too-long .ensures)) (search needs)
+never-requires c κs =
+    let written = c .before .before .before in
+    long-fit (long-answers (rw (c .enum-told .given .1) at (written .write-refusal .ensures))) (search needs)
 
 returns : tie.Need-returns
 returns c = search needs
@@ -29,10 +31,16 @@ part-print-for-long-start : tie.Need-part-print-for-long-start
 part-print-for-long-start c = search needs
 
 part-print-for-long-end : tie.Need-part-print-for-long-end
-part-print-for-long-end c = omega (arith, long-low (rw (c .before .before .count .given .1) at (c .before .before .before .before .before .answer-too-long .ensures)))
+part-print-for-long-end c =
+    let told = c .before .before in
+    let written = told .before .before .before in
+    omega (arith, long-low (long-answers (rw (told .count .given .1) at (written .write-refusal .ensures))))
 
 print-for-long-requires : tie.Need-print-for-long-requires
-print-for-long-requires c κs = long-part (rw (c .before .before .before .count .given .1) at (c .before .before .before .before .before .before .answer-too-long .ensures))
+print-for-long-requires c κs =
+    let told = c .before .before .before in
+    let written = told .before .before .before in
+    long-part (long-answers (rw (told .count .given .1) at (written .write-refusal .ensures)))
 
 returns-2 : tie.Need-returns-2
 returns-2 c = search needs
@@ -41,8 +49,8 @@ pub print-too-long-spec : {M : Type 1} → statement M
 print-too-long-spec =
     tie.close
     (tie.spec
-    slice-aggregate-answer-too-long
-    answer-too-long-requires
+    slice-aggregate-write-refusal
+    write-refusal-requires
     enum-known-count
     enum-told
     never-requires

@@ -20,9 +20,11 @@ use Rattle.graph.specs.declared.Judged.{Judged}
 use Rattle.graph.specs.declared.Judged.the-variants as judged
 use Rattle.text.specs.Text.{Outcome, onMeaning, onJudged, outcomeFrom, outcome, read, graphFrom}
 use Rattle.text.specs.Text.Gateway.{gatewayText, gatewayNodes, gatewayEdges, gateway-means, gateway-graph}
-use Rattle.rows.specs.Result.{decimalBy, membersFrom, afterFirst, rowsFrom}
-use Rattle.verdicts.specs.Prints.{rowsOf, Prints, printed}
-use Rattle.verdicts.specs.Prints.Laws.{prints-one}
+use Rattle.writer.specs.Writer.{decimalBy, membersFrom, afterFirst}
+use Rattle.rows.specs.Result.{rowsFrom}
+use Rattle.report.specs.Report.{rowsOf}
+use Rattle.answer.specs.Prints.{Prints, printed}
+use Rattle.answer.specs.Prints.Laws.{prints-one}
 
 -- One line for each row of the document.
 unfoldable pub gatewayOutput : List ℕ

@@ -10,7 +10,8 @@ use Rattle.graph.specs.Refusals.{Numbered}
 use Rattle.records.specs.declared.Node.{Node}
 use Rattle.records.specs.declared.Edge.{Edge}
 use Rattle.text.specs.declared.Reading.{Reading}
-use Rattle.text.specs.Text.{Outcome, outcome, reading, read, graphFrom, Lent, Tells}
+use Rattle.handover.specs.Handover.{Lent}
+use Rattle.text.specs.Text.{Outcome, outcome, reading, read, graphFrom, Tells}
 use Rattle.text.specs.Text as text
 use Rattle.rows.specs.declared.Written.{Written}
 use Rattle.rows.specs.Result.{refusalRow, Writes}

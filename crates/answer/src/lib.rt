@@ -1,8 +1,7 @@
 // What is printed for a text: the rows of its graph, or its refusal's row.
-use graph::Size;
 use rows::Written;
 use text::Reading;
-ghost use Rattle.text.specs.Text.{lentOf};
+ghost use Rattle.handover.specs.Handover.{lentOf};
 ghost use Rattle.answer.specs.Prints.{ReadsAnswers};
 ghost use Rattle.answer.specs.Prints.Parts.{Held, WritesRead};
 
@@ -23,18 +22,22 @@ fn write_read(
     ensures { λ r. ⌜ WritesRead (lentOf (now (kinds .entry)) (now (checks .entry)) (now (privileged .entry)) (now (entries .entry)) (now (grants .entry)) (now (froms .entry)) (now (tos .entry)) (now (ways .entry))) (now (out .entry)) reading r (now (out .exit)) ⌝ }
 {
     match reading {
-        Reading::Graph { k, n, m } => report::write_graph(
-            out,
-            Size { k: k, n: n, m: m },
-            &kinds[0..n],
-            &checks[0..n],
-            &privileged[0..n],
-            &entries[0..n],
-            &grants[0..n],
-            &froms[0..m],
-            &tos[0..m],
-            &ways[0..m],
-        ),
+        Reading::Graph(size) => {
+            let n = size.n;
+            let m = size.m;
+            report::write_graph(
+                out,
+                size,
+                &kinds[0..n],
+                &checks[0..n],
+                &privileged[0..n],
+                &entries[0..n],
+                &grants[0..n],
+                &froms[0..m],
+                &tos[0..m],
+                &ways[0..m],
+            )
+        }
         Reading::Refused(why) => rows::write_refusal(out, why),
     }
 }

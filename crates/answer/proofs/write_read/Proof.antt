@@ -19,7 +19,7 @@ part-write-graph-start : tie.Need-part-write-graph-start
 part-write-graph-start c = search needs
 
 part-write-graph-end : tie.Need-part-write-graph-end
-part-write-graph-end c = let told = c .before in omega (arith, start told .pre _ _ _ (told .before .reading .given .1) .nodes .kinds)
+part-write-graph-end c = let told = c .before in omega (arith, start told .pre _ (told .before .reading .given .1) .nodes .kinds)
 
 sub-write-graph-2 : tie.Need-sub-write-graph-2
 sub-write-graph-2 c = search needs
@@ -28,7 +28,7 @@ part-write-graph-start-2 : tie.Need-part-write-graph-start-2
 part-write-graph-start-2 c = search needs
 
 part-write-graph-end-2 : tie.Need-part-write-graph-end-2
-part-write-graph-end-2 c = let told = c .before .before in omega (arith, start told .pre _ _ _ (told .before .reading .given .1) .nodes .checks)
+part-write-graph-end-2 c = let told = c .before .before in omega (arith, start told .pre _ (told .before .reading .given .1) .nodes .checks)
 
 sub-write-graph-3 : tie.Need-sub-write-graph-3
 sub-write-graph-3 c = search needs
@@ -37,7 +37,7 @@ part-write-graph-start-3 : tie.Need-part-write-graph-start-3
 part-write-graph-start-3 c = search needs
 
 part-write-graph-end-3 : tie.Need-part-write-graph-end-3
-part-write-graph-end-3 c = let told = c .before .before .before in omega (arith, start told .pre _ _ _ (told .before .reading .given .1) .nodes .privileged)
+part-write-graph-end-3 c = let told = c .before .before .before in omega (arith, start told .pre _ (told .before .reading .given .1) .nodes .privileged)
 
 sub-write-graph-4 : tie.Need-sub-write-graph-4
 sub-write-graph-4 c = search needs
@@ -46,7 +46,7 @@ part-write-graph-start-4 : tie.Need-part-write-graph-start-4
 part-write-graph-start-4 c = search needs
 
 part-write-graph-end-4 : tie.Need-part-write-graph-end-4
-part-write-graph-end-4 c = let told = c .before .before .before .before in omega (arith, start told .pre _ _ _ (told .before .reading .given .1) .nodes .entries)
+part-write-graph-end-4 c = let told = c .before .before .before .before in omega (arith, start told .pre _ (told .before .reading .given .1) .nodes .entries)
 
 sub-write-graph-5 : tie.Need-sub-write-graph-5
 sub-write-graph-5 c = search needs
@@ -55,7 +55,7 @@ part-write-graph-start-5 : tie.Need-part-write-graph-start-5
 part-write-graph-start-5 c = search needs
 
 part-write-graph-end-5 : tie.Need-part-write-graph-end-5
-part-write-graph-end-5 c = let told = c .before .before .before .before .before in omega (arith, start told .pre _ _ _ (told .before .reading .given .1) .nodes .grants)
+part-write-graph-end-5 c = let told = c .before .before .before .before .before in omega (arith, start told .pre _ (told .before .reading .given .1) .nodes .grants)
 
 sub-write-graph-6 : tie.Need-sub-write-graph-6
 sub-write-graph-6 c = search needs
@@ -64,7 +64,7 @@ part-write-graph-start-6 : tie.Need-part-write-graph-start-6
 part-write-graph-start-6 c = search needs
 
 part-write-graph-end-6 : tie.Need-part-write-graph-end-6
-part-write-graph-end-6 c = let told = c .before .before .before .before .before .before in omega (arith, start told .pre _ _ _ (told .before .reading .given .1) .edges .froms)
+part-write-graph-end-6 c = let told = c .before .before .before .before .before .before in omega (arith, start told .pre _ (told .before .reading .given .1) .edges .froms)
 
 sub-write-graph-7 : tie.Need-sub-write-graph-7
 sub-write-graph-7 c = search needs
@@ -73,7 +73,7 @@ part-write-graph-start-7 : tie.Need-part-write-graph-start-7
 part-write-graph-start-7 c = search needs
 
 part-write-graph-end-7 : tie.Need-part-write-graph-end-7
-part-write-graph-end-7 c = let told = c .before .before .before .before .before .before .before in omega (arith, start told .pre _ _ _ (told .before .reading .given .1) .edges .tos)
+part-write-graph-end-7 c = let told = c .before .before .before .before .before .before .before in omega (arith, start told .pre _ (told .before .reading .given .1) .edges .tos)
 
 sub-write-graph-8 : tie.Need-sub-write-graph-8
 sub-write-graph-8 c = search needs
@@ -82,7 +82,7 @@ part-write-graph-start-8 : tie.Need-part-write-graph-start-8
 part-write-graph-start-8 c = search needs
 
 part-write-graph-end-8 : tie.Need-part-write-graph-end-8
-part-write-graph-end-8 c = let told = c .before .before .before .before .before .before .before .before in omega (arith, start told .pre _ _ _ (told .before .reading .given .1) .edges .ways)
+part-write-graph-end-8 c = let told = c .before .before .before .before .before .before .before .before in omega (arith, start told .pre _ (told .before .reading .given .1) .edges .ways)
 
 write-graph-requires : tie.Need-write-graph-requires
 write-graph-requires c κs = search needs

@@ -6,16 +6,13 @@ use mathlib.Core.Bool.{true, false}
 use native.Mathlib.Omega.{arith}
 use native.Mathlib.Nat.{sub-zero}
 use lib.Seq.{sets}
-use lib.Dec.{eqb}
 use lib.ListN.{length, take, replicate, length-replicate}
 use borrow.Author.Tests.{lt-ltb}
-use Rattle.truth.specs.Truth.{Says}
 use Rattle.truth.specs.Truth.Bools.{by-split}
-use Rattle.truth.specs.Truth.Tests.{says-same, says-true, and?, eq?}
+use Rattle.truth.specs.Truth.Tests.{says-true}
 use Rattle.truth.specs.Truth.Kit.{take-sets}
-use Rattle.graph.specs.Graph.{Graph, sizeOf, mapNode, mapEdge, Acceptable, Slices, Content}
+use Rattle.graph.specs.Graph.{Graph, sizeOf, Acceptable, Slices, Content}
 use Rattle.graph.specs.Graph.Results.{content-one, content-exists}
-use Rattle.graph.specs.Judge.Laws.{each-node?, each-edge?}
 use Rattle.graph.specs.Refusals.{Numbered, numbered, _at_}
 use Rattle.graph.specs.declared.Size.{Size}
 use Rattle.graph.specs.declared.Refusal.{Refusal}
@@ -23,9 +20,11 @@ use Rattle.records.specs.declared.Node.{Node}
 use Rattle.records.specs.declared.Edge.{Edge}
 use Rattle.text.specs.declared.Reading.{Reading}
 use Rattle.text.specs.declared.Reading.the-variants as answer
-use Rattle.text.specs.Text.{Outcome, outcome, reading, roomy, read, nodeColumns, graphFrom, Lent, Stores, Tells, stored, refuses}
+use Rattle.handover.specs.Handover.{Lent, Room, roomy, heldGraph}
+use Rattle.handover.specs.Handover.Laws.{room?}
+use Rattle.text.specs.Text.{Outcome, outcomeFrom, outcome, readingFrom, reading, read, nodeColumns, graphFrom, Stores, Tells, stored, refuses}
 use Rattle.text.specs.Text as text
-use Rattle.text.specs.Text.Parts.{Room, Places, heldGraph}
+use Rattle.text.specs.Text.Parts.{Places}
 use Rattle.text.specs.Text.Laws.{reading-roomy, outcome-accepted, stores-room, stored-held, reads-one}
 use Rattle.rows.specs.declared.Written.{Written}
 use Rattle.rows.specs.declared.Written.the-variants as written
@@ -63,7 +62,7 @@ prints-one (printed e c) (printed f d) = printed-one (sym e ∙ f) c d
 
 -- every text has one
 prints-outcome : (s : List ℕ) (o : Outcome) → outcome s ≡ o → (b : List ℕ) × Prints s b
-prints-outcome s (read k ns es) e = let c = content-exists (graphFrom k ns es) (outcome-accepted s e) in (rowsOf (graphFrom k ns es) (c .0), printed e (c .1))
+prints-outcome s (read k ns es) e = let c = content-exists (graphFrom k ns es) (outcome-accepted s 0 1 e) in (rowsOf (graphFrom k ns es) (c .0), printed e (c .1))
 prints-outcome s (text.refused x) e = (refusalRow (x .number) (x .place), refused e)
 
 pub prints-exists : (s : List ℕ) → (b : List ℕ) × Prints s b
@@ -84,7 +83,7 @@ reads-answers-one p q = let e = answers-one (p .answers) (q .answers) in (e .0, 
 pub prints-short : (s : List ℕ) {b : List ℕ} → Prints s b → length b ≤ 440000
 prints-short s (refused {x} e) = omega (arith, refusal-short (x .number) (x .place))
 prints-short s (printed {k = k} {ns = ns} {es = es} {t = t} e c) =
-    omega (arith, outcome-accepted s e .shape .ranges .n-high, result-short (nodeColumns ns .kinds) (nodeColumns ns .checks) (t .denied) (t .granted) (length ns))
+    omega (arith, outcome-accepted s 0 1 e .shape .ranges .n-high, result-short (nodeColumns ns .kinds) (nodeColumns ns .checks) (t .denied) (t .granted) (length ns))
 
 writes-low : {bytes before after : List ℕ} {n : ℕ} → Writes bytes before (Bytes n) after → n ≤ length before
 writes-low (written h) = h
@@ -109,7 +108,7 @@ answers-part {o} a = subst (PrintsFor o) (sym (writes-part (a .writes))) (a .pri
 -- ---- a text above 65,536 bytes
 
 pub long-prints : (s : List ℕ) → 65536 < length s → Prints s (refusalRow 12 0)
-unfolding outcome
+unfolding outcomeFrom
 long-prints s h = refused {x = 12 at 0} (rw (lt-ltb 65536 (length s) h) refl)
 
 pub long-answers : {before after : List ℕ} {r : Written} → Writes (refusalRow 12 0) before r after → (s : List ℕ) → 65536 < length s → Answers s before r after
@@ -134,27 +133,16 @@ module _ {before after : List ℕ} where
 -- ---- the answer
 
 -- slices into which a text was read have room
-room? : (x : Lent) → Says (Room x) (roomy x)
-room? x =
-    says-same
-    (and? (each-node? {f = λ l. eqb l 1024} (λ l. eq? l 1024) (mapNode length (x .nodes))) (each-edge? {f = λ l. eqb l 4096} (λ l. eq? l 4096) (mapEdge length (x .edges))))
-    (λ h. record { nodes = h .0; edges = h .1 })
-    (λ r. (r .nodes, r .edges))
-
 read-room : (x : Lent) (s : List ℕ) {k : ℕ} {ns : List Node} {es : List Edge} → reading x s ≡ read k ns es → Room x
-unfolding reading
+unfolding readingFrom
 read-room x s e = by-split (roomy x) (λ t. says-true (room? x) t) (λ t. absurd (never-both (rw t at e)))
 
 -- the first places of slices, as they are lent
 same-graph : (c : Size) (x : Lent) → lentGraph c x ≡ heldGraph c x
 same-graph c x = rw (sub-zero (c .n), sub-zero (c .m)) refl
 
-places-as : {y : Lent} {k n m a b c : ℕ} → answer.Graph a b c ≡ answer.Graph k n m → Places (sizeOf a b c) y → Places (sizeOf k n m) y
-places-as {y} {k} {n} {m} {a} {b} {c} e p =
-    let u : a ≡ k = cc in
-    let v : b ≡ n = cc in
-    let w : c ≡ m = cc in
-    subst (λ i. Places (sizeOf i n m) y) u (subst (λ i. Places (sizeOf a i m) y) v (subst (λ i. Places (sizeOf a b i) y) w p))
+places-as : {y : Lent} {c d : Size} → answer.Graph d ≡ answer.Graph c → Places d y → Places c y
+places-as {y} {c} {d} e p = let u : d ≡ c = cc in subst (λ i. Places i y) u p
 
 module _ {x y : Lent} (s : List ℕ) where
   -- what was read has places in the slices
@@ -163,7 +151,7 @@ module _ {x y : Lent} (s : List ℕ) where
     room = read-room x s e
 
     acceptable : Acceptable (graphFrom k ns es)
-    acceptable = outcome-accepted s (sym (reading-roomy x s room) ∙ e)
+    acceptable = outcome-accepted s 0 1 (sym (reading-roomy x s 0 1 room) ∙ e)
 
     lent-is : lentGraph (sizeOf k (length ns) (length es)) y ≡ graphFrom k ns es
     lent-is = same-graph (sizeOf k (length ns) (length es)) y ∙ stored-held k ns es room h (acceptable .shape .ranges .n-high) (acceptable .shape .ranges .m-high)
@@ -186,8 +174,8 @@ module _ {x y : Lent} (s : List ℕ) where
         record { bytes = rowsOf (graphFrom k ns es) (v .0); prints = printed e (v .1); writes = v .2 }
 
 pub tells-held : (s : List ℕ) {x y : Lent} {told : Reading} → Tells (reading x s) x told y → Held told y
-tells-held s (stored e h) k n m f = places-as f (places s e h)
-tells-held s (refuses e) k n m f = let z : _≡_ {A = ℕ} 0 1 = cc in absurd (omega arith)
+tells-held s (stored e h) c f = places-as f (places s e h)
+tells-held s (refuses e) c f = let z : _≡_ {A = ℕ} 0 1 = cc in absurd (omega arith)
 
 answers-read : (s : List ℕ) {x y : Lent} {told : Reading} {b c : List ℕ} {r : Written} → Tells (reading x s) x told y → WritesRead y b told r c → AnswersFor (reading x s) b r c
 answers-read s (stored e h) (graph-read w) = graph-answers s e h w
@@ -198,4 +186,4 @@ reads-answers s {told = told} t w = record { told = told; tells = t; answers = a
 
 -- slices with room are lent: the answer is the text's
 pub roomy-answers : {x y : Lent} {s before after : List ℕ} {r : Written} → Room x → ReadsAnswers x s before r after y → Answers s before r after
-roomy-answers {x} {y} {s} {before} {after} {r} h a = subst (λ (o : Outcome). AnswersFor o before r after) (reading-roomy x s h) (a .answers)
+roomy-answers {x} {y} {s} {before} {after} {r} h a = subst (λ (o : Outcome). AnswersFor o before r after) (reading-roomy x s 0 1 h) (a .answers)

@@ -3,12 +3,12 @@ use Prim.Native.Nat.{ℕ, _-_}
 use mathlib.Core.Path.{_≡_}
 use mathlib.Core.List.{List}
 use lib.ListN.{take, drop}
-use Rattle.graph.specs.Graph.{Graph, sizeOf, mapNode, mapEdge}
+use Rattle.graph.specs.Graph.{Graph, mapNode, mapEdge}
 use Rattle.graph.specs.declared.Size.{Size}
 use Rattle.graph.specs.declared.Refusal.{Refusal}
 use Rattle.text.specs.declared.Reading.{Reading}
 use Rattle.text.specs.declared.Reading.the-variants as reading
-use Rattle.text.specs.Text.{Lent}
+use Rattle.handover.specs.Handover.{Lent}
 use Rattle.text.specs.Text.Parts.{Places}
 use Rattle.rows.specs.declared.Written.{Written}
 use Rattle.rows.specs.Result.{Writes, refusalBytes}
@@ -23,9 +23,9 @@ lentGraph c x = record { size = c; nodes = mapNode (first (c .n)) (x .nodes); ed
 
 -- The slices have places for the graph that was read.
 abbrev pub Held : Reading → Lent → Type 0
-Held told x = (k n m : ℕ) → told ≡ reading.Graph k n m → Places (sizeOf k n m) x
+Held told x = (c : Size) → told ≡ reading.Graph c → Places c x
 
 -- The rows of the graph that was read are written, or the refusal's row.
 pub data WritesRead (x : Lent) (before : List ℕ) : Reading → Written → List ℕ → Type 0 where
-  graph-read : {k n m : ℕ} {r : Written} {after : List ℕ} → WritesGraph (lentGraph (sizeOf k n m) x) before r after → WritesRead x before (reading.Graph k n m) r after
+  graph-read : {c : Size} {r : Written} {after : List ℕ} → WritesGraph (lentGraph c x) before r after → WritesRead x before (reading.Graph c) r after
   nothing-read : {why : Refusal} {r : Written} {after : List ℕ} → Writes (refusalBytes why) before r after → WritesRead x before (reading.Refused why) r after

@@ -4,7 +4,7 @@ use crate::show::print_line;
 use crate::show::print_refusal;
 use graph::Judged;
 use graph::Size;
-use solver::Ruling;
+use verdict::Ruling;
 
 pub(crate) fn check(
     size: Size,
@@ -17,7 +17,7 @@ pub(crate) fn check(
     tos: &[u16],
     ways: &[u8],
 ) {
-    let judged = graph::check(
+    let judged = judge::check(
         size,
         kinds,
         checks,
@@ -48,7 +48,7 @@ pub(crate) fn verdict(
     denied: &[u64],
     granted: &[u64],
 ) {
-    let ruling = solver::verdict(
+    let ruling = verdict::verdict(
         size,
         kinds,
         checks,

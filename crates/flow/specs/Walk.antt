@@ -182,6 +182,11 @@ pub record Begun (y : System) (k n : ℕ) (checks entries grants s q : List ℕ)
   pub ins : (i : ℕ) → i < n → getD s i 0 ≡ startIns y k (getD entries i 0) (getD grants i 0)
   pub past : (i : ℕ) → i < n → getD q i 0 ≡ startPast y k (getD entries i 0) (getD grants i 0) (getD checks i 0)
 
+-- node n has the call set c and the trans set t
+pub record Leaves (kinds checks privileged grants : List ℕ) (y : System) (a s q : List ℕ) (n c t : ℕ) : Type 0 where
+  pub calls : c ≡ calledBy privileged grants s n
+  pub moves : t ≡ movedBy kinds checks privileged grants y a s q n
+
 -- what one edge's out set needs of the slices
 pub record Carriable (kinds checks privileged grants froms tos ways a s q : List ℕ) (e : ℕ) : Type 0 where
   pub from : e < length froms

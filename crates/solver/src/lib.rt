@@ -9,10 +9,10 @@ ghost use lib.Dec.{eqb};
 ghost use Prim.Native.Nat.{ℕ, _+_, _-_, _≤_, _<_};
 ghost use lib.ListN.{length, getD};
 ghost use Rattle.truth.specs.Truth.{Says};
-ghost use Rattle.sets.specs.Sets.{has};
+ghost use Rattle.sets.specs.Sets.{has, all, without};
 ghost use Rattle.graph.specs.Graph.{graphOf, sizeOf, Acceptable, Content};
 ghost use Rattle.worklist.specs.Worklist.{Linked};
-ghost use Rattle.flow.specs.Walk.{systemOf, judgedNum, calledBy, movedBy, carriedBy, state, arrive, sendFrom, Bringable, Brings, Sendable, Merged, Delivered, Begun, Carriable, Storable, NodesStored, Setting, Walking};
+ghost use Rattle.flow.specs.Walk.{systemOf, callNum, pastNum, transNum, judgedNum, movedBy, carriedBy, state, arrive, sendFrom, Bringable, Brings, Sendable, Merged, Delivered, Begun, Leaves, Carriable, Storable, NodesStored, Setting, Walking};
 ghost use Rattle.flow.specs.Walk.Settled.{Settled};
 ghost use Rattle.solver.specs.Solve.{slices, ResultsLong, Solves};
 
@@ -176,6 +176,23 @@ fn begin(
     }
 }
 
+// The trans set of a check with the sums `arrived` and `past`.
+fn beyond(
+    sure: bool,
+    kind: u8,
+    check: u16,
+    privileged: u8,
+    grants: u64,
+    arrived: u64,
+    past: u64,
+    any: u64,
+) -> u64
+    ensures { λ r. ⌜ r ≡ transNum kind check privileged grants arrived (pastNum (systemOf sure) check past (has any check)) ⌝ }
+{
+    let passed = flow::passed(sure, check, past, any);
+    flow::moved(kind, check, privileged, grants, arrived, passed)
+}
+
 // The trans set of node i.
 fn trans_at(
     sure: bool,
@@ -192,17 +209,20 @@ fn trans_at(
     requires { ⌜ (i < length (now any)) × (i < length (now ins)) × (i < length (now past)) ⌝ }
     ensures { λ r. ⌜ r ≡ movedBy (now (kinds .entry)) (now (checks .entry)) (now (privileged .entry)) (now (grants .entry)) (systemOf sure) (now (any .entry)) (now (ins .entry)) (now (past .entry)) i ⌝ }
 {
-    if kinds[i] != graph::KIND_CHECK {
-        return ins[i];
+    let kind = kinds[i];
+    let arrived = ins[i];
+    if kind != graph::KIND_CHECK {
+        return arrived;
     }
-    let beyond = flow::passed(sure, checks[i], past[i], any[i]);
-    flow::moved(
-        kinds[i],
+    beyond(
+        sure,
+        kind,
         checks[i],
         privileged[i],
         grants[i],
-        ins[i],
-        beyond,
+        arrived,
+        past[i],
+        any[i],
     )
 }
 
@@ -225,7 +245,7 @@ fn leave(
 ) -> Leaving
     requires { ⌜ (i < length (now kinds)) × (i < length (now checks)) × (i < length (now privileged)) × (i < length (now grants)) ⌝ }
     requires { ⌜ (i < length (now any)) × (i < length (now ins)) × (i < length (now past)) ⌝ }
-    ensures { λ r. ⌜ (r .call ≡ calledBy (now (privileged .entry)) (now (grants .entry)) (now (ins .entry)) i) × (r .trans ≡ movedBy (now (kinds .entry)) (now (checks .entry)) (now (privileged .entry)) (now (grants .entry)) (systemOf sure) (now (any .entry)) (now (ins .entry)) (now (past .entry)) i) ⌝ }
+    ensures { λ r. ⌜ Leaves (now (kinds .entry)) (now (checks .entry)) (now (privileged .entry)) (now (grants .entry)) (systemOf sure) (now (any .entry)) (now (ins .entry)) (now (past .entry)) i (r .call) (r .trans) ⌝ }
 {
     let call = flow::called(privileged[i], grants[i], ins[i]);
     let trans = trans_at(sure, i, kinds, checks, privileged, grants, any, ins, past);
@@ -299,6 +319,16 @@ fn store_outs(
     }
 }
 
+// The denied set of a node with MAY's sum `arrived`.
+fn deny(k: usize, privileged: u8, grants: u64, arrived: u64) -> u64
+    ensures { λ r. ⌜ r ≡ without (all k) (callNum privileged grants arrived) ⌝ }
+{
+    let may = Set {
+        bits: flow::called(privileged, grants, arrived),
+    };
+    Set::all(k).without(may).bits
+}
+
 // The denied and granted sets of all nodes, from the sums of both systems.
 fn store_nodes(
     denied: &mut [u64],
@@ -315,11 +345,10 @@ fn store_nodes(
 {
     let mut i = 0;
     while i < n {
-        let may = Set {
-            bits: flow::called(privileged[i], grants[i], may_ins[i]),
-        };
-        denied[i] = Set::all(k).without(may).bits;
-        granted[i] = flow::called(privileged[i], grants[i], sure_ins[i]);
+        let mark = privileged[i];
+        let own = grants[i];
+        denied[i] = deny(k, mark, own, may_ins[i]);
+        granted[i] = flow::called(mark, own, sure_ins[i]);
         i += 1;
     }
 }

@@ -36,7 +36,7 @@ carry-requires : tie.Need-carry-requires
 carry-requires c κs = search needs
 
 returns : tie.Need-returns
-returns c = let x = c .before .before .before .leave .ensures in rw (x .0, x .1) at (c .carry .ensures)
+returns c = let x = c .before .before .before .leave .ensures in rw (x .calls, x .moves) at (c .carry .ensures)
 
 pub out-of-spec : {M : Type 1} → statement M
 out-of-spec =

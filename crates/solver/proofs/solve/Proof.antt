@@ -1,3 +1,4 @@
+-- Refused where the lengths or the graph are; else the graph is acceptable, and `store` leaves its content.
 use Rattle.solver.specs.Solve.{results, graph, refused, solved}
 use Rattle.graph.specs.Judge.Laws.{accepted-is, refused-is}
 use Rattle.truth.specs.Truth.Tests.{says-true, says-false}
@@ -18,8 +19,13 @@ check-requires c κs = search needs
 enum-told : tie.Need-enum-told
 enum-told c = search needs
 
+-- below, `told` is the place where the graph was told acceptable, `checked` where it was judged, `tested` where the lengths were
 store-requires : tie.Need-store-requires
-store-requires c κs = (accepted-is (rw (c .before .before .before .before .enum-told .given .1) at (c .before .before .before .before .before .before .check .ensures)), says-true (c .before .before .before .before .before .before .before .before .results-long .ensures) (not-false _ (c .before .before .before .before .before .before .before .if1 .left)))
+store-requires c κs =
+    let told = c .before .before .before .before in
+    let checked = told .before .before in
+    let tested = checked .before in
+    (accepted-is (rw (told .enum-told .given .1) at (checked .check .ensures)), says-true (tested .before .results-long .ensures) (not-false _ (tested .if1 .left)))
 
 enum-known-judged : tie.Need-enum-known-judged
 enum-known-judged c = search needs
@@ -37,10 +43,18 @@ same-length-4 : tie.Need-same-length-4
 same-length-4 c = search needs
 
 returns-2 : tie.Need-returns-2
-returns-2 c = solved (says-true (c .before .before .before .before .before .before .before .before .before .before .before .before .before .before .before .before .before .results-long .ensures) (not-false _ (c .before .before .before .before .before .before .before .before .before .before .before .before .before .before .before .before .if1 .left))) (accepted-is (rw (c .before .before .before .before .before .before .before .before .before .before .before .before .before .enum-told .given .1) at (c .before .before .before .before .before .before .before .before .before .before .before .before .before .before .before .check .ensures))) (c .before .before .before .before .before .before .before .before .store .ensures)
+returns-2 c =
+    let stored = c .before .before .before .before .before .before .before .before in
+    let told = stored .before .before .before .before .before in
+    let checked = told .before .before in
+    let tested = checked .before in
+    solved (says-true (tested .before .results-long .ensures) (not-false _ (tested .if1 .left))) (accepted-is (rw (told .enum-told .given .1) at (checked .check .ensures))) (stored .store .ensures)
 
 returns-3 : tie.Need-returns-3
-returns-3 c = refused (graph (says-true (c .before .before .before .before .before .results-long .ensures) (not-false _ (c .before .before .before .before .if1 .left))) (refused-is (rw (c .before .judged .given .1) at (c .before .before .before .check .ensures))))
+returns-3 c =
+    let checked = c .before .before .before in
+    let tested = checked .before in
+    refused (graph (says-true (tested .before .results-long .ensures) (not-false _ (tested .if1 .left))) (refused-is (rw (c .before .judged .given .1) at (checked .check .ensures))))
 
 pub solve-spec : {M : Type 1} → statement M
 solve-spec =

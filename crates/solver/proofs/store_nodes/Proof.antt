@@ -1,3 +1,4 @@
+-- Both sets are stored for the nodes below i.
 use Prim.Native.Nat.{_-_}
 use native.Mathlib.Omega.{arith}
 use borrow.Author.Needs.{needs}
@@ -18,29 +19,23 @@ abbrev μ-loop : tie.MeasureT-loop
 loop-holds : tie.Need-loop-holds Inv-loop μ-loop
 loop-holds c = (filled-none _ _ _, filled-none _ _ _)
 
-shared-slice-read-called : tie.Need-shared-slice-read-called Inv-loop μ-loop
-shared-slice-read-called c = omega arith
+shared-slice-read-mark : tie.Need-shared-slice-read-mark Inv-loop μ-loop
+shared-slice-read-mark c = omega arith
 
-mul-called : tie.Need-mul-called Inv-loop μ-loop
-mul-called c = omega arith
+mul-own : tie.Need-mul-own Inv-loop μ-loop
+mul-own c = omega arith
 
-shared-slice-read-called-2 : tie.Need-shared-slice-read-called-2 Inv-loop μ-loop
-shared-slice-read-called-2 c = omega arith
+shared-slice-read-own : tie.Need-shared-slice-read-own Inv-loop μ-loop
+shared-slice-read-own c = omega arith
 
-mul-called-2 : tie.Need-mul-called-2 Inv-loop μ-loop
-mul-called-2 c = omega arith
+mul-deny : tie.Need-mul-deny Inv-loop μ-loop
+mul-deny c = omega arith
 
-shared-slice-read-called-3 : tie.Need-shared-slice-read-called-3 Inv-loop μ-loop
-shared-slice-read-called-3 c = omega arith
+shared-slice-read-deny : tie.Need-shared-slice-read-deny Inv-loop μ-loop
+shared-slice-read-deny c = omega arith
 
-called-requires : tie.Need-called-requires Inv-loop μ-loop
-called-requires c κs = search needs
-
-all-requires : tie.Need-all-requires Inv-loop μ-loop
-all-requires c κs = search needs
-
-without-requires : tie.Need-without-requires Inv-loop μ-loop
-without-requires c κs = search needs
+deny-requires : tie.Need-deny-requires Inv-loop μ-loop
+deny-requires c κs = search needs
 
 mul-denied : tie.Need-mul-denied Inv-loop μ-loop
 mul-denied c = omega arith
@@ -48,23 +43,14 @@ mul-denied c = omega arith
 slice-write-denied : tie.Need-slice-write-denied Inv-loop μ-loop
 slice-write-denied c = omega arith
 
-shared-slice-read-called-4 : tie.Need-shared-slice-read-called-4 Inv-loop μ-loop
-shared-slice-read-called-4 c = omega arith
+mul-called : tie.Need-mul-called Inv-loop μ-loop
+mul-called c = omega arith
 
-mul-called-3 : tie.Need-mul-called-3 Inv-loop μ-loop
-mul-called-3 c = omega arith
+shared-slice-read-called : tie.Need-shared-slice-read-called Inv-loop μ-loop
+shared-slice-read-called c = omega arith
 
-shared-slice-read-called-5 : tie.Need-shared-slice-read-called-5 Inv-loop μ-loop
-shared-slice-read-called-5 c = omega arith
-
-mul-called-4 : tie.Need-mul-called-4 Inv-loop μ-loop
-mul-called-4 c = omega arith
-
-shared-slice-read-called-6 : tie.Need-shared-slice-read-called-6 Inv-loop μ-loop
-shared-slice-read-called-6 c = omega arith
-
-called-requires-2 : tie.Need-called-requires-2 Inv-loop μ-loop
-called-requires-2 c κs = search needs
+called-requires : tie.Need-called-requires Inv-loop μ-loop
+called-requires c κs = search needs
 
 mul-granted : tie.Need-mul-granted Inv-loop μ-loop
 mul-granted c = omega arith
@@ -80,10 +66,11 @@ loop-less c = omega arith
 
 loop-again : tie.Need-loop-again Inv-loop μ-loop
 loop-again c =
-    let at = c .before .before .before .before .before .before .before .before .before .before .before .loop in
-    let more = c .before .before .before .before .before .before .before .before .before .before .loop-test .taken in
-    let denied = rw (c .before .before .before .before .before .all .ensures, c .before .before .before .before .before .before .called .ensures) at (c .before .before .before .before .without .ensures) in
-    (filled-more _ _ _ _ _ _ more (omega arith) denied (at .inv .0), filled-more _ _ _ _ _ _ more (omega arith) (c .called2 .ensures) (at .inv .1))
+    let turn = c .before .before .before .before .before .before in
+    let at = turn .before .loop in (
+      filled-more _ _ _ _ _ _ (turn .loop-test .taken) (omega arith) (c .before .before .deny .ensures) (at .inv .0),
+      filled-more _ _ _ _ _ _ (turn .loop-test .taken) (omega arith) (c .called .ensures) (at .inv .1),
+    )
 
 same-length : tie.Need-same-length Inv-loop μ-loop
 same-length c = omega arith
@@ -103,22 +90,17 @@ store-nodes-spec =
     Inv-loop
     μ-loop
     loop-holds
-    shared-slice-read-called
-    mul-called
-    shared-slice-read-called-2
-    mul-called-2
-    shared-slice-read-called-3
-    called-requires
-    all-requires
-    without-requires
+    shared-slice-read-mark
+    mul-own
+    shared-slice-read-own
+    mul-deny
+    shared-slice-read-deny
+    deny-requires
     mul-denied
     slice-write-denied
-    shared-slice-read-called-4
-    mul-called-3
-    shared-slice-read-called-5
-    mul-called-4
-    shared-slice-read-called-6
-    called-requires-2
+    mul-called
+    shared-slice-read-called
+    called-requires
     mul-granted
     slice-write-granted
     add-i

@@ -114,14 +114,14 @@ send-requires c κs =
 loop-less : tie.Need-loop-less Inv-loop μ-loop
 loop-less c =
     let v = l c .leave .ensures in
-    taken.turn (g (i c)) _ _ _ _ _ (start (i c) .pre .0) (linked (i c)) (x (i c)) (t (i c)) (above (i c)) (walking (i c)) _ _ (v .0) (v .1) _ (sent c .send .ensures) .1
+    taken.turn (g (i c)) _ _ _ _ _ (start (i c) .pre .0) (linked (i c)) (x (i c)) (t (i c)) (above (i c)) (walking (i c)) _ _ (v .calls) (v .moves) _ (sent c .send .ensures) .1
 
 loop-again : tie.Need-loop-again Inv-loop μ-loop
 loop-again c =
     let v = l c .leave .ensures in
     let k = sent c .send .kept in
     let o = i c .before .loop .inv in (
-      taken.turn (g (i c)) _ _ _ _ _ (start (i c) .pre .0) (linked (i c)) (x (i c)) (t (i c)) (above (i c)) (walking (i c)) _ _ (v .0) (v .1) _ (sent c .send .ensures) .0,
+      taken.turn (g (i c)) _ _ _ _ _ (start (i c) .pre .0) (linked (i c)) (x (i c)) (t (i c)) (above (i c)) (walking (i c)) _ _ (v .calls) (v .moves) _ (sent c .send .ensures) .0,
       k .0 ∙ o .1,
       k .1 .0 ∙ o .2,
       k .1 .1 .0 ∙ length-set (i c .before .loop .marks) (getD (i c .before .loop .stack) (t (i c)) 0) 0 ∙ o .3,

@@ -1,25 +1,23 @@
 -- When every edge is quiet the sums are in(n) and what passes each check, and what the edges carry is the solution asked for.
-use Prim.Native.Nat.{ℕ, _<_, _^_}
+use Prim.Native.Nat.{ℕ, _<_}
 use mathlib.Core.Path.{_≡_, refl, sym, _∙_, ap}
 use mathlib.Core.List.{List}
 use mathlib.Core.Bool.{Bool, true, false, cond, _&&_, _||_}
 use mathlib.Core.Logic.{_↔_, ⊎-elim}
-use native.Mathlib.Omega.{arith}
 use lib.Dec.{eqb, ltb}
 use lib.ListN.{getD}
-use borrow.Author.Tests.{eqb-true, eqb-false}
-use Rattle.truth.specs.Truth.Bools.{by-split, clash, same-bool, both, left, right, either}
+use borrow.Author.Tests.{eqb-true}
+use Rattle.truth.specs.Truth.Bools.{clash, same-bool, both, right, either}
 use Rattle.sets.specs.Sets.{has}
-use Rattle.sets.specs.Sets.Members.{has-common}
-use Rattle.graph.specs.Graph.{Graph, isCheck, check, entry, grants, from, to, Acceptable, System, may, sure, Outs, Arrival, mark, edge, arriving, inSet, pastSet, outSet, Within, held}
+use Rattle.graph.specs.Graph.{Graph, isCheck, check, entry, from, System, may, sure, Arrival, arriving, inSet, pastSet, outSet, Within, held}
 use Rattle.graph.specs.Graph.Arrivals.{Arrives, by-mark, by-edge, arriving-mark, arriving-edge}
-use Rattle.graph.specs.Graph.Edges.{in-may, in-sure, past-may, past-sure, PastSure}
+use Rattle.graph.specs.Graph.Edges.{in-may, in-sure, past-may, past-sure}
 use Rattle.graph.specs.Graph.Rules.{from-low, check-low}
 use Rattle.graph.specs.Graph.Rule.{outRule, out-by-rule, out-rule-mono}
 use Rattle.graph.specs.Graph.Rounds.{LeastClosed, GreatestBacked}
 use Rattle.graph.specs.Graph.Solutions.{sure-mono}
 use Rattle.graph.specs.Graph.Code.{isCheck-code, check-code, entry-code, grants-code, from-code, to-code}
-use Rattle.flow.specs.Walk.{pastNum, judgedNum, carried, fromOf, toOf, counts, Toward, Closed, Setting, Good, Quiet}
+use Rattle.flow.specs.Walk.{pastNum, judgedNum, carried, toOf, Setting, Good, Quiet}
 use Rattle.flow.specs.Walk.Sums.{has-carried, carried-toward, has-past-sure}
 
 -- the out sets l are what the edges carry by the sums s and q, and no edge has anything more to tell

@@ -1,21 +1,21 @@
 -- What both walks leave is the content that the slices are to hold.
-use Prim.Native.Nat.{ℕ, _≤_, _<_, _^_}
+use Prim.Native.Nat.{ℕ, _<_, _^_}
 use mathlib.Core.Path.{_≡_, refl, sym, _∙_, ap, ap₂}
 use mathlib.Core.List.{List}
 use mathlib.Core.Bool.{Bool, true, false, cond, not, _&&_}
 use native.Mathlib.Omega.{arith}
-use lib.Dec.{eqb, ltb}
+use lib.Dec.{eqb}
 use lib.ListN.{length, getD}
 use borrow.Author.Tests.{lt-ltb}
 use Prim.Native.Nat.{min}
-use Rattle.sets.specs.Sets.{has, all, without}
+use Rattle.sets.specs.Sets.{has, all}
 use Rattle.sets.specs.Sets.Members.{has-all, has-without, below-members}
 use Rattle.sets.specs.Sets.Order.{all-lt, without-lt}
-use Rattle.graph.specs.Graph.{Graph, privileged, grants, Acceptable, System, may, sure, Outs, inSet, callSet, deniedSet, grantedSet, Slices, held, Stored, Content}
+use Rattle.graph.specs.Graph.{Graph, privileged, grants, Acceptable, System, may, sure, callSet, held, Stored, Content}
 use Rattle.graph.specs.Graph.Rule.{callRule, call-by-rule}
 use Rattle.graph.specs.Graph.Rounds.{least-closed, greatest-backed}
 use Rattle.graph.specs.Graph.Code.{privileged-code, grants-code, denied-code, granted-code}
-use Rattle.flow.specs.Walk.{callNum, calledBy, carried, Good, NodesStored}
+use Rattle.flow.specs.Walk.{callNum, calledBy, carried, NodesStored}
 use Rattle.flow.specs.Walk.Settled.{Settled, may-settled, may-ins, sure-settled, sure-ins}
 use Rattle.flow.specs.Walk.Taken.{carried-lt}
 

@@ -1,20 +1,19 @@
 -- The sums of the nodes: what edges carry by them, how they begin, and what an arrival keeps of them.
 use Prim.Native.Nat.{ℕ, _≤_, _<_, _^_}
-use mathlib.Core.Path.{_≡_, refl, sym, _∙_, ap}
+use mathlib.Core.Path.{_≡_, refl, sym, _∙_}
 use mathlib.Core.List.{List}
 use mathlib.Core.Bool.{Bool, true, false, cond, _&&_, _||_}
-use mathlib.Core.Logic.{dite, ⊎-elim}
+use mathlib.Core.Logic.{⊎-elim}
 use native.Mathlib.Omega.{arith}
 use native.Mathlib.Decide.{ℕ-discrete}
 use lib.Dec.{eqb, ltb}
 use lib.ListN.{length, getD, set}
 use lib.Seq.{getD-set-same, getD-set-other}
-use borrow.Author.Tests.{eqb-true, eq-eqb, ne-eqb, eqb-false, lt-ltb, ltb-true}
-use Rattle.truth.specs.Truth.Bools.{by-split, clash, both, left, right, either, or-left, or-right}
-use Rattle.sets.specs.Sets.{has, empty, common, add}
+use borrow.Author.Tests.{eqb-true, eq-eqb, ne-eqb, eqb-false, lt-ltb}
+use Rattle.truth.specs.Truth.Bools.{by-split, both, left, right, either, or-left, or-right}
+use Rattle.sets.specs.Sets.{has, empty, common}
 use Rattle.sets.specs.Sets.Members.{has-common, has-empty, has-add, below-members, has-join}
-use Rattle.sets.specs.Sets.Order.{empty-lt, common-lt, add-lt}
-use Rattle.graph.specs.Graph.{Graph, isCheck, check, privileged, entry, grants, from, to, isCall, Acceptable, System, may, sure, Outs, Arrival, mark, edge, arriving, inSet, pastSet, outSet, held}
+use Rattle.graph.specs.Graph.{Graph, isCheck, check, privileged, grants, from, Acceptable, System, may, sure, Outs, mark, edge, arriving, inSet, pastSet, held}
 use Rattle.graph.specs.Graph.Arrivals.{Arrives, by-mark, by-edge, arriving-mark, arriving-edge}
 use Rattle.graph.specs.Graph.Edges.{in-may, in-sure, past-may, past-sure}
 use Rattle.graph.specs.Graph.Rules.{from-low, check-low}

@@ -1,6 +1,6 @@
 -- What the calls return, taken together: after `solve` accepted a graph, `quick` by its sets returns on every reachable stack what `full`
 -- does, after no more frames, and what `verdict` says of a check holds on every reachable stack with the check on top.
-use Prim.Native.Nat.{ℕ, _<_, _≤_}
+use Prim.Native.Nat.{ℕ, _≤_}
 use mathlib.Core.Path.{_≡_, refl, sym, _∙_}
 use mathlib.Core.List.{List, _∷_}
 use mathlib.Core.Bool.{true, false}

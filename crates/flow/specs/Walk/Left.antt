@@ -1,7 +1,7 @@
 -- How the work that is left falls.
 use mathlib.Core.Path.{_≡_, ap}
 use mathlib.Core.List.{List, [], _∷_}
-use mathlib.Core.Bool.{true, false}
+use mathlib.Core.Bool.{true}
 use Prim.Native.Nat.{ℕ, zero, suc, _+_, _≤_, _<_, _^_}
 use native.Mathlib.Nat.{not-suc-le-zero, le-of-suc-le-suc}
 use native.Mathlib.Omega.{arith}

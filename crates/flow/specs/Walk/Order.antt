@@ -1,12 +1,12 @@
 -- Which way sums move.
 use Prim.Native.Nat.{ℕ, _≤_, _<_, _^_, min}
-use mathlib.Core.Path.{_≡_, refl, sym, _∙_}
-use mathlib.Core.Bool.{Bool, true, false}
+use mathlib.Core.Path.{sym, _∙_}
+use mathlib.Core.Bool.{Bool}
 use mathlib.Core.Logic.{⊎-elim}
 use native.Mathlib.Omega.{arith}
 use borrow.Author.Tests.{lt-ltb}
 use Rattle.truth.specs.Truth.Bools.{clash, both, left, right, either, or-left, or-right}
-use Rattle.sets.specs.Sets.{has, empty, all, join, common}
+use Rattle.sets.specs.Sets.{has}
 use Rattle.sets.specs.Sets.Members.{has-join, has-common, has-empty, has-all}
 use Rattle.sets.specs.Sets.Order.{empty-lt, all-lt, join-lt, common-lt}
 use Rattle.graph.specs.Graph.{System, may, sure}

@@ -2,16 +2,14 @@
 use Prim.Native.Nat.{ℕ, zero, suc, _+_, _≤_, _<_}
 use mathlib.Core.Path.{_≡_, refl, sym, ap, _∙_}
 use mathlib.Core.List.{List}
-use mathlib.Core.Bool.{Bool, true, false, cond, _&&_, _||_, or-false}
+use mathlib.Core.Bool.{Bool, true, false, cond, _||_, or-false}
 use native.Mathlib.Omega.{arith}
-use lib.Dec.{eqb}
 use lib.ListN.{length, getD, set}
 use lib.Seq.{set-getD}
 use borrow.Author.Tests.{eq-eqb, ne-eqb}
-use Rattle.sets.specs.Sets.{has}
 use Rattle.graph.specs.Graph.{System}
 use Rattle.worklist.specs.Worklist.{fresh, Put}
-use Rattle.flow.specs.Walk.{merge, edgeNum, judgedNum, State, state, push, arrive, sendFrom, Sendable, Bringable, Brings, Merged, Delivered}
+use Rattle.flow.specs.Walk.{merge, State, state, push, arrive, sendFrom, Sendable, Bringable, Brings, Merged, Delivered}
 
 -- ---- a set v arrives at node b
 

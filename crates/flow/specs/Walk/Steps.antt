@@ -1,24 +1,23 @@
 -- What one arrival keeps of a walk that is telling the edges of a node.
 use mathlib.Core.Path.{_≡_, refl, sym, ap, ap₂, _∙_, subst}
 use mathlib.Core.List.{List}
-use mathlib.Core.Bool.{Bool, true, false, cond, _&&_, _||_, not, false≢true}
+use mathlib.Core.Bool.{Bool, true, false, cond, _&&_, _||_}
 use mathlib.Core.Logic.{dite, ⊎-elim}
-use Prim.Native.Nat.{ℕ, suc, _+_, _*_, _≤_, _<_, _^_}
+use Prim.Native.Nat.{ℕ, suc, _+_, _≤_, _<_, _^_}
 use native.Mathlib.Decide.{ℕ-discrete, decLt}
 use native.Mathlib.Omega.{arith}
 use native.Mathlib.Nat.{lt-of-lt-of-le}
-use lib.Dec.{eqb, ltb}
 use lib.Pow.{pow-mono}
 use lib.ListN.{length, getD, set, length-set}
 use lib.Seq.{getD-set-same, getD-set-other, set-getD}
-use borrow.Author.Tests.{eqb-true, eqb-false, eq-eqb, lt-ltb, not-true, not-false}
-use Rattle.truth.specs.Truth.Bools.{by-split, clash, both, left as and-left, right as and-right, either}
+use borrow.Author.Tests.{eqb-true, not-false}
+use Rattle.truth.specs.Truth.Bools.{by-split, clash, either}
 use Rattle.sets.specs.Sets.{has}
-use Rattle.graph.specs.Graph.{Graph, to, System, may, sure}
+use Rattle.graph.specs.Graph.{Graph, System}
 use Rattle.graph.specs.Graph.Rules.{to-low}
 use Rattle.worklist.specs.Worklist.{fresh}
 use Rattle.worklist.specs.Worklist.Stack.{put-stacked, fresh-so, fresh-unmarked}
-use Rattle.flow.specs.Walk.{merge, callNum, pastNum, transNum, edgeNum, carried, fromOf, toOf, counts, State, state, into, changes, changed, push, arrive, Toward, Setting, Good, Quiet, left, toDo, Sized, Sending}
+use Rattle.flow.specs.Walk.{merge, callNum, pastNum, transNum, edgeNum, carried, fromOf, toOf, counts, State, into, changes, changed, push, arrive, Toward, Setting, Good, Quiet, left, Sending}
 use Rattle.flow.specs.Walk.Order.{toward-trans, toward-refl, merge-left, merge-right}
 use Rattle.flow.specs.Walk.Sums.{set-holds, arrive-good, carried-toward}
 use Rattle.flow.specs.Walk.Left.{into-less, into-most}

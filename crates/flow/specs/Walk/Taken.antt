@@ -9,7 +9,6 @@ use lib.Dec.{eqb}
 use lib.ListN.{length, getD, set, length-set}
 use lib.Seq.{getD-set-other}
 use borrow.Author.Tests.{eqb-true}
-use Rattle.truth.specs.Truth.Bools.{by-split}
 use Rattle.sets.specs.Sets.{has, empty, common}
 use Rattle.sets.specs.Sets.Members.{below-members}
 use Rattle.sets.specs.Sets.Order.{empty-lt, common-lt, add-lt}

@@ -1,8 +1,4 @@
-use mathlib.Core.Path.{_∙_, ap}
-use mathlib.Core.Bool.{_&&_}
-use lib.Dec.{eqb}
 use borrow.Author.Tests.{ne-eqb}
-use Rattle.sets.specs.Sets.{has}
 use borrow.Author.Needs.{needs}
 use Rattle.solver.proofs.counts_at.Statement.{statement}
 use Rattle.solver.proofs.counts_at.Tie as tie

@@ -1,12 +1,9 @@
 -- MAY is solved first, then SURE by MAY's out sets and by what MAY says of every check (`may-any`); both, with the sets of the nodes, are the
 -- content asked for (`walked-content`).
 use mathlib.Core.Path.{_∙_, refl, sym}
-use Prim.Native.Nat.{ℕ}
-use lib.ListN.{length-replicate, getD-replicate}
+use lib.ListN.{getD-replicate}
 use native.Mathlib.Omega.{arith}
 use borrow.Author.Needs.{needs}
-use Rattle.graph.specs.Graph.{graphOf}
-use Rattle.worklist.specs.Worklist.{Linked}
 use Rattle.flow.specs.Walk.Stored.{walked-content}
 use Rattle.flow.specs.Walk.Settled.{may-any}
 use Rattle.flow.specs.Walk.Taken.{lists-linked}

@@ -1,6 +1,6 @@
 -- One answer and one content for every input.
 use mathlib.Core.Path.{_≡_, refl, ap}
-use Rattle.graph.specs.Graph.{Graph, Acceptable, Slices, Content}
+use Rattle.graph.specs.Graph.{Graph, Acceptable, Slices}
 use Rattle.graph.specs.Graph.Results.{content-one}
 use Rattle.graph.specs.Refusals.{Numbered, numbered-one}
 use Rattle.graph.specs.Judge.Laws.{refuses-one, refuses-not}

@@ -1,10 +1,10 @@
 -- The places below i are written.
 use Prim.Native.Nat.{_-_, _≤_}
-use mathlib.Core.Path.{_≡_, refl, sym, ap, _∙_}
+use mathlib.Core.Path.{_≡_, refl, ap, _∙_}
 use native.Mathlib.Omega.{arith}
 use lib.ListN.{length, length-set}
 use Rattle.worklist.specs.Worklist.{countDown}
-use Rattle.worklist.specs.Worklist.Stack.{count-more, count-long}
+use Rattle.worklist.specs.Worklist.Stack.{count-more}
 use Rattle.worklist.proofs.count_down.Statement.{statement}
 use Rattle.worklist.proofs.count_down.Tie as tie
 

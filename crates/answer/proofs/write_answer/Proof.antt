@@ -5,7 +5,7 @@ use Rattle.answer.proofs.write_answer.Statement.{statement}
 use Rattle.answer.proofs.write_answer.Tie as tie
 
 read-requires : tie.Need-read-requires
-read-requires c κs = search needs
+read-requires c κs = tt
 
 write-read-requires : tie.Need-write-read-requires
 write-read-requires c κs =

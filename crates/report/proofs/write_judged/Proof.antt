@@ -7,7 +7,7 @@ enum-told : tie.Need-enum-told
 enum-told c = search needs
 
 write-result-requires : tie.Need-write-result-requires
-write-result-requires c κs = search needs
+write-result-requires c κs = tt
 
 enum-known-judged : tie.Need-enum-known-judged
 enum-known-judged c = search needs

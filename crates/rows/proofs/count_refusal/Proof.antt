@@ -1,16 +1,16 @@
 -- The row has at most 51 bytes, so the count is far below the largest place.
+use mathlib.Core.Path.{refl}
 use native.Mathlib.Omega.{arith}
 use Rattle.writer.specs.Writer.Places.{puts-count}
 use Rattle.rows.specs.Result.Rows.{refusal-short}
-use borrow.Author.Needs.{needs}
 use Rattle.rows.proofs.count_refusal.Statement.{statement}
 use Rattle.rows.proofs.count_refusal.Tie as tie
 
 slice-aggregate-put-refusal : tie.Need-slice-aggregate-put-refusal
-slice-aggregate-put-refusal c = search needs
+slice-aggregate-put-refusal c = refl
 
 put-refusal-requires : tie.Need-put-refusal-requires
-put-refusal-requires c κs = search needs
+put-refusal-requires c κs = tt
 
 returns : tie.Need-returns
 returns c =

@@ -1,4 +1,5 @@
 -- A row has at most 429 bytes, so the count is far below the largest place.
+use mathlib.Core.Path.{refl}
 use native.Mathlib.Omega.{arith}
 use Rattle.writer.specs.Writer.Places.{puts-count}
 use Rattle.rows.specs.Result.Rows.{result-short}
@@ -7,7 +8,7 @@ use Rattle.rows.proofs.count_result.Statement.{statement}
 use Rattle.rows.proofs.count_result.Tie as tie
 
 slice-aggregate-put-result : tie.Need-slice-aggregate-put-result
-slice-aggregate-put-result c = search needs
+slice-aggregate-put-result c = refl
 
 put-result-requires : tie.Need-put-result-requires
 put-result-requires c κs = search needs

@@ -1,14 +1,14 @@
-use native.Mathlib.Omega.{arith}
-use Rattle.writer.specs.Writer.Places.{puts-then}
+use mathlib.Core.Path.{refl}
+use Rattle.writer.specs.Writer.Places.{puts-then, lent}
 use borrow.Author.Needs.{needs}
 use Rattle.rows.proofs.put_result.Statement.{statement}
 use Rattle.rows.proofs.put_result.Tie as tie
 
 slice-aggregate-put-all : tie.Need-slice-aggregate-put-all
-slice-aggregate-put-all c = search needs
+slice-aggregate-put-all c = refl
 
 put-all-requires : tie.Need-put-all-requires
-put-all-requires c κs = search needs
+put-all-requires c κs = tt
 
 put-rows-requires : tie.Need-put-rows-requires
 put-rows-requires c κs = search needs
@@ -21,7 +21,7 @@ returns c =
     let rows = c .before .before in
     let header = rows .before .before .before .before in
     let start = header .before .before .before .before .before .before .before .before in
-    puts-then (omega (arith, start .good .0 .0)) (header .put-all .ensures) (rows .put-rows .ensures)
+    puts-then (lent (start .good .0 .0)) (header .put-all .ensures) (rows .put-rows .ensures)
 
 pub put-result-spec : {M : Type 1} → statement M
 put-result-spec =

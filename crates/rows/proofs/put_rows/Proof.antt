@@ -2,7 +2,7 @@
 use Prim.Native.Nat.{_≤_, _-_}
 use native.Mathlib.Omega.{arith}
 use Rattle.writer.specs.Writer.{Puts}
-use Rattle.writer.specs.Writer.Places.{puts-long}
+use Rattle.writer.specs.Writer.Places.{puts-long, lent}
 use Rattle.rows.specs.Result.{rowsFrom}
 use Rattle.rows.specs.Result.Rows.{rowing-start, rowing-more, rowing-end}
 use borrow.Author.Needs.{needs}
@@ -54,7 +54,7 @@ shared-slice-read-put-row-4 c =
     omega (arith, start .pre .granted-long)
 
 put-row-requires : tie.Need-put-row-requires Inv-loop μ-loop
-put-row-requires c κs = search needs
+put-row-requires c κs = tt
 
 add-i : tie.Need-add-i Inv-loop μ-loop
 add-i c = search needs
@@ -66,7 +66,7 @@ loop-again : tie.Need-loop-again Inv-loop μ-loop
 loop-again c =
     let row = c .before .before in
     let turn = row .before .before .before .before .before .before in
-    (rowing-more _ _ _ _ (turn .before .loop .i) (omega arith) (turn .before .loop .inv .0) (row .put-row .ensures), omega arith)
+    (rowing-more _ _ _ _ (turn .before .loop .i) (lent (turn .before .before .before .before .before .before .before .good .0 .0)) (turn .before .loop .inv .0) (row .put-row .ensures), omega arith)
 
 same-length : tie.Need-same-length Inv-loop μ-loop
 same-length c = puts-long (c .before .loop .inv .0)

@@ -12,19 +12,19 @@ returns : tie.Need-returns
 returns c = puts-as (sym (verdict-none _ _ _ _ (c .if1 .taken))) (puts-none (omega arith))
 
 has-requires : tie.Need-has-requires
-has-requires c κs = search needs
+has-requires c κs = tt
 
 has-requires-2 : tie.Need-has-requires-2
-has-requires-2 c κs = search needs
+has-requires-2 c κs = tt
 
 judge-check-requires : tie.Need-judge-check-requires
-judge-check-requires c κs = search needs
+judge-check-requires c κs = tt
 
 number-requires : tie.Need-number-requires
-number-requires c κs = search needs
+number-requires c κs = tt
 
 put-number-requires : tie.Need-put-number-requires
-put-number-requires c κs = search needs
+put-number-requires c κs = tt
 
 same-length : tie.Need-same-length
 same-length c = search needs

@@ -8,13 +8,13 @@ use Rattle.rows.proofs.write_refusal.Statement.{statement}
 use Rattle.rows.proofs.write_refusal.Tie as tie
 
 number-requires : tie.Need-number-requires
-number-requires c κs = search needs
+number-requires c κs = tt
 
 place-requires : tie.Need-place-requires
-place-requires c κs = search needs
+place-requires c κs = tt
 
 count-refusal-requires : tie.Need-count-refusal-requires
-count-refusal-requires c κs = search needs
+count-refusal-requires c κs = tt
 
 returns : tie.Need-returns
 returns c =
@@ -25,7 +25,7 @@ returns c =
     writes-none (counted .count-refusal .ensures ∙ ap length row) (c .if1 .taken)
 
 put-refusal-requires : tie.Need-put-refusal-requires
-put-refusal-requires c κs = search needs
+put-refusal-requires c κs = tt
 
 same-length : tie.Need-same-length
 same-length c = search needs

@@ -10,7 +10,7 @@ use Rattle.rows.proofs.write_result.Statement.{statement}
 use Rattle.rows.proofs.write_result.Tie as tie
 
 is-long-requires : tie.Need-is-long-requires
-is-long-requires c κs = search needs
+is-long-requires c κs = tt
 
 returns : tie.Need-returns
 returns c = shape (says-false (c .before .is-long .ensures) (not-true _ (c .if1 .taken)))

@@ -1,13 +1,14 @@
+use mathlib.Core.Path.{refl}
 use native.Mathlib.Omega.{arith}
 use borrow.Author.Needs.{needs}
 use Rattle.verdicts.proofs.main.Statement.{statement}
 use Rattle.verdicts.proofs.main.Tie as tie
 
 slice-aggregate-read-input : tie.Need-slice-aggregate-read-input
-slice-aggregate-read-input c = search needs
+slice-aggregate-read-input c = refl
 
 read-input-requires : tie.Need-read-input-requires
-read-input-requires c κs = search needs
+read-input-requires c κs = tt
 
 enum-known-input : tie.Need-enum-known-input
 enum-known-input c = search needs
@@ -24,19 +25,19 @@ part-print-answer-end c =
     omega (arith, told .before .before .before .read-input .ensures _ (told .input .given .1))
 
 print-answer-requires : tie.Need-print-answer-requires
-print-answer-requires c κs = search needs
+print-answer-requires c κs = tt
 
 enum-told : tie.Need-enum-told
 enum-told c = search needs
 
 print-too-long-requires : tie.Need-print-too-long-requires
-print-too-long-requires c κs = search needs
+print-too-long-requires c κs = tt
 
 enum-told-2 : tie.Need-enum-told-2
 enum-told-2 c = search needs
 
 complain-unread-requires : tie.Need-complain-unread-requires
-complain-unread-requires c κs = search needs
+complain-unread-requires c κs = tt
 
 returns : tie.Need-returns
 returns c = search needs

@@ -5,7 +5,7 @@ use Rattle.verdicts.proofs.print_from.Statement.{statement}
 use Rattle.verdicts.proofs.print_from.Tie as tie
 
 answer-text-requires : tie.Need-answer-text-requires
-answer-text-requires c κs = search needs
+answer-text-requires c κs = tt
 
 enum-known-count : tie.Need-enum-known-count
 enum-known-count c = search needs

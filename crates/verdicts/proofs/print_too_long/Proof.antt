@@ -1,3 +1,4 @@
+use mathlib.Core.Path.{refl}
 use native.Mathlib.Omega.{arith}
 use Rattle.answer.specs.Prints.Laws.{long-answers, long-low, long-part, long-fit}
 use borrow.Author.Needs.{needs}
@@ -5,10 +6,10 @@ use Rattle.verdicts.proofs.print_too_long.Statement.{statement}
 use Rattle.verdicts.proofs.print_too_long.Tie as tie
 
 slice-aggregate-write-refusal : tie.Need-slice-aggregate-write-refusal
-slice-aggregate-write-refusal c = search needs
+slice-aggregate-write-refusal c = refl
 
 write-refusal-requires : tie.Need-write-refusal-requires
-write-refusal-requires c κs = search needs
+write-refusal-requires c κs = tt
 
 enum-known-count : tie.Need-enum-known-count
 enum-known-count c = search needs

@@ -5,7 +5,7 @@ use Rattle.writer.proofs.put.Statement.{statement}
 use Rattle.writer.proofs.put.Tie as tie
 
 place-after-requires : tie.Need-place-after-requires
-place-after-requires c κs = search needs
+place-after-requires c κs = tt
 
 returns : tie.Need-returns
 returns c = put-past (c .before .if1 .taken) (c .place-after .ensures)

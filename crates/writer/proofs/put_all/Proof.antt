@@ -2,7 +2,7 @@
 use Prim.Native.Nat.{_-_}
 use native.Mathlib.Omega.{arith}
 use lib.ListN.{length}
-use Rattle.writer.specs.Writer.Places.{puts-long, Putting, putting-start, putting-more, putting-end}
+use Rattle.writer.specs.Writer.Places.{puts-long, lent, Putting, putting-start, putting-more, putting-end}
 use borrow.Author.Needs.{needs}
 use Rattle.writer.proofs.put_all.Statement.{statement}
 use Rattle.writer.proofs.put_all.Tie as tie
@@ -20,7 +20,7 @@ shared-slice-read-put : tie.Need-shared-slice-read-put Inv-loop μ-loop
 shared-slice-read-put c = search needs
 
 put-requires : tie.Need-put-requires Inv-loop μ-loop
-put-requires c κs = search needs
+put-requires c κs = tt
 
 add-i : tie.Need-add-i Inv-loop μ-loop
 add-i c = search needs
@@ -32,7 +32,7 @@ loop-again : tie.Need-loop-again Inv-loop μ-loop
 loop-again c =
     let byte = c .before .before in
     let turn = byte .before .before .before in
-    putting-more (omega arith) (turn .before .loop .inv) (turn .loop-test .taken) (byte .put .ensures)
+    putting-more (lent (turn .before .before .before .before .good .0 .0)) (turn .before .loop .inv) (turn .loop-test .taken) (byte .put .ensures)
 
 same-length : tie.Need-same-length Inv-loop μ-loop
 same-length c = puts-long (c .before .loop .inv .so-far)

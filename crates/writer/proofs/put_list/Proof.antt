@@ -5,7 +5,7 @@ use Prim.Native.Nat.{_-_}
 use native.Mathlib.Omega.{arith}
 use lib.Seq.{take-all}
 use Rattle.writer.specs.Writer.{afterFirst}
-use Rattle.writer.specs.Writer.Places.{puts-as, puts-none, puts-then}
+use Rattle.writer.specs.Writer.Places.{puts-as, puts-none, puts-then, lent}
 use Rattle.writer.specs.Writer.Members.{spaced-none, spaced-by}
 use borrow.Author.Needs.{needs}
 use Rattle.writer.proofs.put_list.Statement.{statement}
@@ -21,7 +21,7 @@ cast-put-number : tie.Need-cast-put-number
 cast-put-number c = omega (arith, c .shared-slice-known2 .given 0)
 
 put-number-requires : tie.Need-put-number-requires
-put-number-requires c κs = search needs
+put-number-requires c κs = tt
 
 sub-put-rest : tie.Need-sub-put-rest
 sub-put-rest c = search needs
@@ -33,7 +33,7 @@ part-put-rest-end : tie.Need-part-put-rest-end
 part-put-rest-end c = search needs
 
 put-rest-requires : tie.Need-put-rest-requires
-put-rest-requires c κs = search needs
+put-rest-requires c κs = tt
 
 same-length : tie.Need-same-length
 same-length c = search needs
@@ -43,9 +43,10 @@ returns-2 c =
     let second = c .before .before in
     let first = second .before .before .before .before .before in
     let some = first .before .before .before in
-    let l = some .before .before .before .args .list .now in
+    let start = some .before .before .before in
+    let l = start .args .list .now in
     let rest = ap afterFirst (take-all (length l - 1) (drop 1 l) (omega (arith, length-drop 1 l))) in
-    puts-as (spaced-by l (some .if1 .left)) (puts-then (omega arith) (first .put-number .ensures) (puts-as rest (second .put-rest .ensures)))
+    puts-as (spaced-by l (some .if1 .left)) (puts-then (lent (start .good .0 .0)) (first .put-number .ensures) (puts-as rest (second .put-rest .ensures)))
 
 pub put-list-spec : {M : Type 1} → statement M
 put-list-spec =

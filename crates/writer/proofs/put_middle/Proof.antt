@@ -1,7 +1,6 @@
 -- Three or four digits are the one or two of the hundreds, and two more.
 use mathlib.Core.Path.{sym}
-use native.Mathlib.Omega.{arith}
-use Rattle.writer.specs.Writer.Places.{puts-as, puts-then}
+use Rattle.writer.specs.Writer.Places.{puts-as, puts-then, lent}
 use Rattle.writer.specs.Writer.Numbers.{decimal-4}
 use borrow.Author.Needs.{needs}
 use Rattle.writer.proofs.put_middle.Statement.{statement}
@@ -24,9 +23,11 @@ returns c =
     let third = c .before .before in
     let second = third .before .before .before .before in
     let first = second .before .before .before .before in
-    let range = first .before .before .before .pre in
+    let start = first .before .before .before in
+    let range = start .pre in
+    let short = lent (start .good .0 .0) in
     puts-as (sym (decimal-4 (range .0) (range .1)))
-    (puts-then (omega arith) (puts-then (omega arith) (first .put-short .ensures) (second .put-digit .ensures)) (third .put-digit2 .ensures))
+    (puts-then short (puts-then short (first .put-short .ensures) (second .put-digit .ensures)) (third .put-digit2 .ensures))
 
 pub put-middle-spec : {M : Type 1} → statement M
 put-middle-spec =

@@ -2,7 +2,7 @@
 use Prim.Native.Nat.{_-_}
 use native.Mathlib.Omega.{arith}
 use lib.ListN.{length}
-use Rattle.writer.specs.Writer.Places.{puts-long}
+use Rattle.writer.specs.Writer.Places.{puts-long, lent}
 use Rattle.writer.specs.Writer.Members.{Spacing, spacing-start, spacing-more, spacing-end}
 use borrow.Author.Needs.{needs}
 use Rattle.writer.proofs.put_rest.Statement.{statement}
@@ -18,7 +18,7 @@ loop-holds : tie.Need-loop-holds Inv-loop μ-loop
 loop-holds c = spacing-start (omega arith)
 
 put-requires : tie.Need-put-requires Inv-loop μ-loop
-put-requires c κs = search needs
+put-requires c κs = tt
 
 shared-slice-read-put-number : tie.Need-shared-slice-read-put-number Inv-loop μ-loop
 shared-slice-read-put-number c = search needs
@@ -29,7 +29,7 @@ cast-put-number c =
     omega (arith, c .shared-slice-known2 .given (turn .loop .i))
 
 put-number-requires : tie.Need-put-number-requires Inv-loop μ-loop
-put-number-requires c κs = search needs
+put-number-requires c κs = tt
 
 add-i : tie.Need-add-i Inv-loop μ-loop
 add-i c = search needs
@@ -42,7 +42,7 @@ loop-again c =
     let number = c .before .before in
     let space = number .before .before .before .before .before in
     let turn = space .before .before in
-    spacing-more (omega arith) (turn .before .loop .inv) (turn .loop-test .taken) (space .put .ensures) (number .put-number .ensures)
+    spacing-more (lent (turn .before .before .before .before .good .0 .0)) (turn .before .loop .inv) (turn .loop-test .taken) (space .put .ensures) (number .put-number .ensures)
 
 same-length : tie.Need-same-length Inv-loop μ-loop
 same-length c = puts-long (c .before .loop .inv .so-far)

@@ -1,6 +1,5 @@
 use mathlib.Core.Path.{sym}
-use native.Mathlib.Omega.{arith}
-use Rattle.writer.specs.Writer.Places.{puts-as, puts-then}
+use Rattle.writer.specs.Writer.Places.{puts-as, puts-then, lent}
 use Rattle.writer.specs.Writer.Numbers.{decimal-1, decimal-2}
 use borrow.Author.Needs.{needs}
 use Rattle.writer.proofs.put_short.Statement.{statement}
@@ -28,8 +27,9 @@ returns-2 : tie.Need-returns-2
 returns-2 c =
     let second = c .before .before in
     let first = second .before .before .before .before in
+    let start = first .before .before .before .before in
     let many = first .before .before .if1 .left in
-    puts-as (sym (decimal-2 many (first .before .before .before .before .pre))) (puts-then (omega arith) (first .put-digit2 .ensures) (second .put-digit3 .ensures))
+    puts-as (sym (decimal-2 many (start .pre))) (puts-then (lent (start .good .0 .0)) (first .put-digit2 .ensures) (second .put-digit3 .ensures))
 
 pub put-short-spec : {M : Type 1} → statement M
 put-short-spec =

@@ -53,6 +53,9 @@ sets-past l i [] h = refl
 sets-past l i (x ∷ xs) h = ap (λ m. sets m (suc i) xs) (set-out l i x h) ∙ sets-past l (suc i) xs (omega arith)
 
 -- no slice reaches the largest place
+pub lent : {n : ℕ} → n < 18446744073709551616 → n ≤ lastPlace
+lent h = omega (arith, h)
+
 sets-place : (l : List ℕ) (n : ℕ) (xs : List ℕ) → length l ≤ lastPlace → sets l (placeOf n) xs ≡ sets l n xs
 sets-place l n xs h =
     by-split (ltb n lastPlace)
@@ -66,6 +69,10 @@ puts-none {l} {i} h = record { answer = sym (ap placeOf (add-zero i) ∙ place-l
 
 pub puts-long : {bytes l m : List ℕ} {i j : ℕ} → Puts bytes l i j m → length m ≡ length l
 puts-long {bytes} {l} {m} {i} p = ap length (p .content) ∙ length-sets l i bytes
+
+-- nor after bytes were written to it
+pub lent-after : {bytes l m : List ℕ} {i j : ℕ} → length l ≤ lastPlace → Puts bytes l i j m → length m ≤ lastPlace
+lent-after h p = omega (arith, h, puts-long p)
 
 pub puts-then : {xs ys l m n : List ℕ} {i j k : ℕ} → length l ≤ lastPlace → Puts xs l i j m → Puts ys m j k n → Puts (xs ++ ys) l i k n
 puts-then {xs} {ys} {l} {m} {n} {i} {j} {k} h a b =

@@ -339,6 +339,13 @@ pub record Slices : Type 0 where
   pub mayOut : List ℕ
   pub sureOut : List ℕ
 
+-- The result slices are as long as they have to be, by their lengths: N sets of nodes, M of edges.
+pub record ResultsLong (n m denied granted mayOut sureOut : ℕ) : Type 0 where
+  pub denied-long : denied ≡ n
+  pub granted-long : granted ≡ n
+  pub may-long : mayOut ≡ m
+  pub sure-long : sureOut ≡ m
+
 -- The out sets that a slice holds.
 abbrev pub held : List ℕ → Outs
 held l e p = has (getD l e 0) p

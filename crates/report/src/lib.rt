@@ -5,8 +5,7 @@ use graph::Size;
 use rows::Written;
 ghost use Prim.Native.Nat.{_≤_};
 ghost use lib.ListN.{length};
-ghost use Rattle.graph.specs.Graph.{graphOf};
-ghost use Rattle.solver.specs.Solve.{ResultsLong};
+ghost use Rattle.graph.specs.Graph.{graphOf, ResultsLong};
 ghost use Rattle.report.specs.Report.{WritesGraph};
 ghost use Rattle.report.specs.Report.Parts.{WritesJudged};
 

@@ -4,7 +4,7 @@ use sets::Set;
 ghost use mathlib.Core.Path.{_≡_};
 ghost use Prim.Native.Nat.{_<_};
 ghost use Rattle.truth.specs.Truth.{Says};
-ghost use Rattle.graph.specs.Graph.{privilegedBy, nodesOf, edgesOf, NodeRule, EndsRule, Ranges, NodesLong, EdgesLong, ShapeRule};
+ghost use Rattle.graph.specs.Graph.{privilegedBy, nodesOf, edgesOf, NodeRule, EndsRule, Ranges, NodesLong, EdgesLong, ShapeRule, ResultsLong};
 
 fn check_obeys(k: usize, kind: u8, check: u16) -> bool
     ensures { λ r. ⌜ Says ((kind ≡ 2 → check < k) × ((kind ≡ 2 → ⊥) → check ≡ 0)) r ⌝ }
@@ -139,4 +139,27 @@ pub fn has_shape(
         return false;
     }
     edges_long(size.m, froms, tos, ways)
+}
+
+// Whether the four slices of a result are as long as they have to be, by their lengths.
+pub fn results_long(
+    n: usize,
+    m: usize,
+    denied: usize,
+    granted: usize,
+    may: usize,
+    sure: usize,
+) -> bool
+    ensures { λ r. ⌜ Says (ResultsLong n m denied granted may sure) r ⌝ }
+{
+    if denied != n {
+        return false;
+    }
+    if granted != n {
+        return false;
+    }
+    if may != m {
+        return false;
+    }
+    sure == m
 }

@@ -5,7 +5,7 @@ use Prim.Native.Nat.{ℕ}
 use mathlib.Core.Path.{_≡_}
 use mathlib.Core.List.{List}
 use lib.ListN.{length}
-use Rattle.graph.specs.Graph.{Graph, Acceptable, Slices, Content}
+use Rattle.graph.specs.Graph.{Graph, Acceptable, Slices, Content, ResultsLong}
 use Rattle.graph.specs.Refusals.{Numbered, _at_, numbered}
 use Rattle.graph.specs.Judge.{Refuses}
 use Rattle.graph.specs.declared.Refusal.{Refusal}
@@ -15,13 +15,7 @@ use Rattle.graph.specs.declared.Judged.the-variants.{Accepted, Refused}
 abbrev pub slices : (denied granted mayOut sureOut : List ℕ) → Slices
 slices denied granted mayOut sureOut = record { denied = denied; granted = granted; mayOut = mayOut; sureOut = sureOut }
 
--- The result slices are as long as they have to be, by their lengths: N sets of nodes, M of edges.
-pub record ResultsLong (n m denied granted mayOut sureOut : ℕ) : Type 0 where
-  pub denied-long : denied ≡ n
-  pub granted-long : granted ≡ n
-  pub may-long : mayOut ≡ m
-  pub sure-long : sureOut ≡ m
-
+-- The result slices are as long as they have to be.
 abbrev pub Long : Graph → Slices → Type 0
 Long g s = ResultsLong (g .size .n) (g .size .m) (length (s .denied)) (length (s .granted)) (length (s .mayOut)) (length (s .sureOut))
 

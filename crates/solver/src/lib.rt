@@ -10,11 +10,11 @@ ghost use Prim.Native.Nat.{ℕ, _+_, _-_, _≤_, _<_};
 ghost use lib.ListN.{length, getD};
 ghost use Rattle.truth.specs.Truth.{Says};
 ghost use Rattle.sets.specs.Sets.{has, all, without};
-ghost use Rattle.graph.specs.Graph.{graphOf, sizeOf, Acceptable, Content};
+ghost use Rattle.graph.specs.Graph.{graphOf, sizeOf, Acceptable, Content, ResultsLong};
 ghost use Rattle.worklist.specs.Worklist.{Linked};
 ghost use Rattle.flow.specs.Walk.{systemOf, callNum, pastNum, transNum, judgedNum, movedBy, carriedBy, state, arrive, sendFrom, Bringable, Brings, Sendable, Merged, Delivered, Begun, Leaves, Carriable, Storable, NodesStored, Setting, Walking};
 ghost use Rattle.flow.specs.Walk.Settled.{Settled};
-ghost use Rattle.solver.specs.Solve.{slices, ResultsLong, Solves};
+ghost use Rattle.solver.specs.Solve.{slices, Solves};
 
 // The set by which the set v of edge e is judged.
 fn judged(sure: bool, wide: &[u64], e: usize, v: u64) -> u64
@@ -556,22 +556,6 @@ fn store(
     );
 }
 
-// By the lengths of the result slices.
-fn results_long(n: usize, m: usize, denied: usize, granted: usize, may: usize, sure: usize) -> bool
-    ensures { λ r. ⌜ Says (ResultsLong n m denied granted may sure) r ⌝ }
-{
-    if denied != n {
-        return false;
-    }
-    if granted != n {
-        return false;
-    }
-    if may != m {
-        return false;
-    }
-    sure == m
-}
-
 // Solves both systems, and stores the denied and granted sets of every node and the MAY and SURE out sets of every edge. A refusal
 // stores nothing.
 pub fn solve(
@@ -591,7 +575,7 @@ pub fn solve(
 ) -> Judged
     ensures { λ r. ⌜ Solves (graphOf size (now (kinds .entry)) (now (checks .entry)) (now (privileged .entry)) (now (entries .entry)) (now (grants .entry)) (now (froms .entry)) (now (tos .entry)) (now (ways .entry))) (slices (now (denied .entry)) (now (granted .entry)) (now (may .entry)) (now (sure .entry))) r (slices (now (denied .exit)) (now (granted .exit)) (now (may .exit)) (now (sure .exit))) ⌝ }
 {
-    if !results_long(
+    if !rules::results_long(
         size.n,
         size.m,
         denied.len(),

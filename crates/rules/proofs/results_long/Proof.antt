@@ -1,8 +1,8 @@
 use Rattle.truth.specs.Truth.Tests.{says-same, eq?}
 use Rattle.truth.specs.Truth.{fails}
 use native.Mathlib.Omega.{arith}
-use Rattle.solver.proofs.results_long.Statement.{statement}
-use Rattle.solver.proofs.results_long.Tie as tie
+use Rattle.rules.proofs.results_long.Statement.{statement}
+use Rattle.rules.proofs.results_long.Tie as tie
 
 returns : tie.Need-returns
 returns c = fails (λ p. omega arith)

@@ -11,6 +11,7 @@ pub mod Rounds
 pub mod Results
 pub mod Tables
 pub mod Gateway
+pub mod Backwards
 pub mod LooksRight
 use Prim.Native.Nat.{ℕ, _≤_, _<_}
 use mathlib.Core.Path.{_≡_}

@@ -1,6 +1,6 @@
 // Permission sets of at most 64 permissions, by value. Every call takes any permission number.
 ghost use mathlib.Core.Path.{_≡_};
-ghost use Rattle.sets.specs.Sets.{all, join, common, without, add, within, has, same};
+ghost use Rattle.sets.specs.Sets.{empty, all, join, common, without, add, within, has, same};
 
 pub struct Set {
     // Permission p is a member where binary digit p is 1.
@@ -59,6 +59,12 @@ impl Set {
         ensures { λ r. ⌜ r ≡ same (self .bits) (other .bits) ⌝ }
     {
         self.bits == other.bits
+    }
+
+    pub fn is_empty(self) -> bool
+        ensures { λ r. ⌜ r ≡ same (self .bits) empty ⌝ }
+    {
+        self.same(Set::EMPTY)
     }
 
     pub fn has(self, p: usize) -> bool

@@ -169,6 +169,10 @@ module _ (g : Graph) (acc : Acceptable g) where
     λ h. record { solves = h .solves; least = λ x q. h .least x (λ e p l k t. q e p l k ∙ t) },
   )
 
+  -- the least solution exists
+  pub least-exists : (l : List ℕ) × LeastMay g (held l)
+  least-exists = (may-exists .0, least-closed (held (may-exists .0)) .1 (may-exists .1))
+
   -- the least MAY solution lies within the grants of each edge's to node, transfer loops included
   pub least-granted : (m : Outs) → LeastMay g m → Within g m (λ e p. grants g (to g e) p)
   least-granted m h e p l k t = right (m e p) (grants g (to g e) p) (least-closed m .0 h .least cut closed e p l k t)
@@ -208,3 +212,7 @@ module _ (g : Graph) (m : Outs) where
     }),
     λ h. record { solves = h .solves; greatest = λ x q. h .greatest x (λ e p l k t. sym (q e p l k) ∙ t) },
   )
+
+  -- the greatest solution exists
+  pub greatest-exists : (l : List ℕ) × GreatestSure g m (held l)
+  greatest-exists = (sure-exists .0, greatest-backed (held (sure-exists .0)) .1 (sure-exists .1))

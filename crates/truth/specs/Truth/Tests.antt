@@ -29,6 +29,13 @@ pub false-says : {P : Type 0} {b : Bool} → Says P b → (P → ⊥) → b ≡ 
 false-says (holds p) h = absurd (h p)
 false-says (fails q) h = refl
 
+-- one truth value is left
+pub says-one : {P : Type 0} {a b : Bool} → Says P a → Says P b → a ≡ b
+says-one (holds p) (holds q) = refl
+says-one (holds p) (fails q) = absurd (q p)
+says-one (fails p) (holds q) = absurd (p q)
+says-one (fails p) (fails q) = refl
+
 pub says-same : {P Q : Type 0} {b : Bool} → Says P b → (P → Q) → (Q → P) → Says Q b
 says-same (holds p) f g = holds (f p)
 says-same (fails q) f g = fails (λ x. q (g x))

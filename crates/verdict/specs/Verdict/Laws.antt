@@ -13,6 +13,20 @@ use Rattle.verdict.specs.declared.Ruling.{Ruling}
 use Rattle.verdict.specs.declared.Ruling.the-variants as ruling
 use Rattle.verdict.specs.Verdict.{verdictNumber, VerdictRefuses, sets, graph, asked, no-check, VerdictGiven, Rules, refused, given}
 
+-- what a check's two sets say of it is one finding
+verdict-of : ℕ → Finding
+verdict-of n = getD (Needed ∷ AlwaysPasses ∷ AlwaysFails ∷ NeverReached ∷ []) n Needed
+
+verdict-back : (v : Finding) → verdict-of (verdictNumber v) ≡ v
+unfolding verdict-of
+verdict-back Needed = refl
+verdict-back AlwaysPasses = refl
+verdict-back AlwaysFails = refl
+verdict-back NeverReached = refl
+
+pub finding-one : {a b : Finding} {n : ℕ} → verdictNumber a ≡ n → verdictNumber b ≡ n → a ≡ b
+finding-one {a} {b} f h = sym (verdict-back a) ∙ ap verdict-of (f ∙ sym h) ∙ verdict-back b
+
 module _ (g : Graph) (d r : List ℕ) (n : ℕ) where
   refusal-one : {x z : Numbered} → VerdictRefuses g d r n x → VerdictRefuses g d r n z → x ≡ z
   refusal-one (sets f) (sets h) = refl
@@ -38,18 +52,8 @@ module _ (g : Graph) (d r : List ℕ) (n : ℕ) where
   refusal-not (asked l a f) h = f (h .below)
   refusal-not (no-check l a b f) h = clash (h .at-check) f
 
-  verdict-of : ℕ → Finding
-  verdict-of n = getD (Needed ∷ AlwaysPasses ∷ AlwaysFails ∷ NeverReached ∷ []) n Needed
-
-  verdict-back : (v : Finding) → verdict-of (verdictNumber v) ≡ v
-  unfolding verdict-of
-  verdict-back Needed = refl
-  verdict-back AlwaysPasses = refl
-  verdict-back AlwaysFails = refl
-  verdict-back NeverReached = refl
-
   pub rules-one : {a b : Ruling} → Rules g d r n a → Rules g d r n b → a ≡ b
   rules-one (refused {r = a} f) (refused {r = b} h) = ap ruling.Refused (numbered-one a b (refusal-one f h))
   rules-one (refused f) (given h) = absurd (refusal-not f h)
   rules-one (given h) (refused f) = absurd (refusal-not f h)
-  rules-one (given {v} f) (given {v = u} h) = ap ruling.Given (sym (verdict-back v) ∙ ap verdict-of (f .number ∙ sym (h .number)) ∙ verdict-back u)
+  rules-one (given f) (given h) = ap ruling.Given (finding-one (f .number) (h .number))

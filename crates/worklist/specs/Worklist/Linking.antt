@@ -105,3 +105,11 @@ module _ (froms : List ℕ) where
     pub links-linked : length froms ≤ 65535 → {r : Bool} {x : Lists} → Links froms head prev r x → Linked froms n (x .head) (x .prev) (length froms)
     links-linked few (linked _) = linked-to (length froms) (omega arith)
     links-linked few (kept d) = absurd (d (record { room = room; few = few; starts = λ e l. omega (arith, starts e l) }))
+
+-- ---- one answer, and one content
+
+pub links-one : {froms head prev : List ℕ} {a b : Bool} {x y : Lists} → Links froms head prev a x → Links froms head prev b y → (a ≡ b) × (x ≡ y)
+links-one (linked h) (linked k) = (refl, refl)
+links-one (linked h) (kept k) = absurd (k h)
+links-one (kept h) (linked k) = absurd (h k)
+links-one (kept h) (kept k) = (refl, refl)

@@ -165,3 +165,14 @@ fills-by n st st′ h l e = rw e (filled h l)
 pub fills-all : (n : ℕ) (st : List ℕ) {st′ : List ℕ} → n ≤ length st → n ≤ 65535 → Fills n st st′ → (j : ℕ) → j < n → getD st′ j 0 ≡ n - 1 - j
 fills-all n st h l (filled _ _) = counted n st n h
 fills-all n st h l (kept d) = absurd (d h l)
+
+-- ---- one answer, and one content
+
+pub put-one : {d st a b x y : List ℕ} {top n i j : ℕ} {new : Bool} → Put d st top n new a x i → Put d st top n new b y j → (a ≡ b) × (x ≡ y) × (i ≡ j)
+put-one f h = (f .marks ∙ sym (h .marks), f .stack ∙ sym (h .stack), f .height ∙ sym (h .height))
+
+pub fills-one : {n : ℕ} {st a b : List ℕ} → Fills n st a → Fills n st b → a ≡ b
+fills-one (filled k l) (filled m o) = refl
+fills-one (filled k l) (kept h) = absurd (h k l)
+fills-one (kept h) (filled k l) = absurd (h k l)
+fills-one (kept h) (kept k) = refl

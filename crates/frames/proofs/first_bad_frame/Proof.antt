@@ -1,10 +1,10 @@
-use Rattle.machine.specs.Inspect.{Frame}
+use Rattle.frames.specs.Frames.{Frame}
 use Rattle.truth.specs.Truth.Tests.{Passed, passed-none, passed-more, passed-stop, passed-end}
 use borrow.Author.Needs.{needs}
 use native.Mathlib.Omega.{arith}
 use Prim.Native.Nat.{_-_}
-use Rattle.machine.proofs.first_bad_frame.Statement.{statement}
-use Rattle.machine.proofs.first_bad_frame.Tie as tie
+use Rattle.frames.proofs.first_bad_frame.Statement.{statement}
+use Rattle.frames.proofs.first_bad_frame.Tie as tie
 
 abbrev Inv-loop : tie.InvT-loop
 Inv-loop n stack height i₀ i = Passed (Frame n stack) height i

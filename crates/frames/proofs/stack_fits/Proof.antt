@@ -2,8 +2,8 @@ use Rattle.truth.specs.Truth.Tests.{first-all, first-some}
 use Rattle.truth.specs.Truth.{holds, fails}
 use native.Mathlib.Omega.{arith}
 use borrow.Author.Needs.{needs}
-use Rattle.machine.proofs.stack_fits.Statement.{statement}
-use Rattle.machine.proofs.stack_fits.Tie as tie
+use Rattle.frames.proofs.stack_fits.Statement.{statement}
+use Rattle.frames.proofs.stack_fits.Tie as tie
 
 returns : tie.Need-returns
 returns c = fails (λ f. omega (arith, f .slice))

@@ -2,9 +2,9 @@
 use mathlib.Core.Path.{refl}
 use native.Mathlib.Omega.{arith}
 use Rattle.writer.specs.Writer.Places.{puts-count}
-use Rattle.rows.specs.Result.Rows.{refusal-short}
-use Rattle.rows.proofs.count_refusal.Statement.{statement}
-use Rattle.rows.proofs.count_refusal.Tie as tie
+use Rattle.refusals.specs.Writes.Laws.{refusal-short}
+use Rattle.refusals.proofs.count_refusal.Statement.{statement}
+use Rattle.refusals.proofs.count_refusal.Tie as tie
 
 slice-aggregate-put-refusal : tie.Need-slice-aggregate-put-refusal
 slice-aggregate-put-refusal c = refl

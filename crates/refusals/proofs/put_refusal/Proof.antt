@@ -2,8 +2,8 @@
 use mathlib.Core.Path.{refl}
 use Rattle.writer.specs.Writer.Places.{puts-then, lent, lent-after}
 use borrow.Author.Needs.{needs}
-use Rattle.rows.proofs.put_refusal.Statement.{statement}
-use Rattle.rows.proofs.put_refusal.Tie as tie
+use Rattle.refusals.proofs.put_refusal.Statement.{statement}
+use Rattle.refusals.proofs.put_refusal.Tie as tie
 
 slice-aggregate-put-all : tie.Need-slice-aggregate-put-all
 slice-aggregate-put-all c = refl

@@ -2,10 +2,10 @@
 use mathlib.Core.Path.{ap, _∙_}
 use lib.ListN.{length}
 use Rattle.writer.specs.Writer.Places.{puts-as}
-use Rattle.rows.specs.Result.Calls.{writes-none, writes-all, refusal-is}
+use Rattle.refusals.specs.Writes.Laws.{writes-none, writes-all, refusal-is}
 use borrow.Author.Needs.{needs}
-use Rattle.rows.proofs.write_refusal.Statement.{statement}
-use Rattle.rows.proofs.write_refusal.Tie as tie
+use Rattle.refusals.proofs.write_refusal.Statement.{statement}
+use Rattle.refusals.proofs.write_refusal.Tie as tie
 
 number-requires : tie.Need-number-requires
 number-requires c κs = tt

@@ -8,7 +8,8 @@ use mathlib.Core.Bool.{cond}
 use lib.ListN.{length, getD}
 use lib.Dec.{eqb}
 use Rattle.sets.specs.Sets.{has}
-use Rattle.writer.specs.Writer.{decimal, setBytes}
+use Rattle.writer.specs.Writer.{decimal}
+use Rattle.members.specs.Members.{setBytes}
 use Rattle.graph.specs.Graph.{verdictOf}
 use Rattle.graph.specs.declared.Refusal.the-variants as why
 use Rattle.refusals.specs.declared.Written.{Written}

@@ -6,7 +6,8 @@ ghost use mathlib.Core.Path.{_≡_};
 ghost use mathlib.Core.List.{_∷_};
 ghost use lib.ListN.{length};
 ghost use Rattle.truth.specs.Truth.{Says};
-ghost use Rattle.writer.specs.Writer.{setBytes, Puts};
+ghost use Rattle.writer.specs.Writer.{Puts};
+ghost use Rattle.members.specs.Members.{setBytes};
 ghost use Rattle.rows.specs.Result.{verdictBytes, rowBytes, rowsFrom, resultBytes, Long, WritesResult};
 
 // No row is longer, its end included; and so long is the header.
@@ -19,7 +20,7 @@ fn put_set_field(out: &mut [u8], at: usize, set: u64) -> usize
     ensures { λ r. ⌜ Puts (44 ∷ setBytes set) (now (out .entry)) at r (now (out .exit)) ⌝ }
 {
     let next = writer::put(out, at, b',');
-    writer::put_set(out, next, set)
+    members::put_set(out, next, set)
 }
 
 // The verdict of a check, and nothing at any other node.

@@ -11,10 +11,11 @@ use borrow.Author.Tests.{eq-eqb, ne-eqb}
 use Rattle.truth.specs.Truth.Bools.{by-split}
 use Rattle.sets.specs.Sets.{has}
 use Rattle.graph.specs.Graph.{verdictOf}
-use Rattle.writer.specs.Writer.{decimal, setBytes, lastPlace, Puts}
+use Rattle.writer.specs.Writer.{decimal, lastPlace, Puts}
 use Rattle.writer.specs.Writer.Places.{puts-none, puts-then, puts-as}
 use Rattle.writer.specs.Writer.Numbers.{decimal-short}
-use Rattle.writer.specs.Writer.Members.{set-short}
+use Rattle.members.specs.Members.{setBytes}
+use Rattle.members.specs.Members.Laws.{set-short}
 use Rattle.rows.specs.Result.{verdictBytes, rowBytes, headerBytes, rowsFrom, resultBytes}
 
 pub verdict-short : (kind check denied granted : ℕ) → length (verdictBytes kind check denied granted) ≤ 20

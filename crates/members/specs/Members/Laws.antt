@@ -14,9 +14,10 @@ use Rattle.truth.specs.Truth.Bools.{by-split}
 use Rattle.truth.specs.Truth.Kit.{take-sets}
 use Rattle.sets.specs.Sets.{has}
 use Rattle.sets.specs.Sets.Members.{has-past, has-zero, has-suc}
-use Rattle.writer.specs.Writer.{decimal, membersFrom, afterFirst, spaced, setBytes, lastPlace, placeOf, Puts}
+use Rattle.writer.specs.Writer.{decimal, lastPlace, placeOf, Puts}
 use Rattle.writer.specs.Writer.Places.{place-le, puts-none, puts-long, puts-then, puts-as, puts-count, take-more}
 use Rattle.writer.specs.Writer.Numbers.{short-decimal}
+use Rattle.members.specs.Members.{membersFrom, afterFirst, spaced, setBytes}
 
 -- ---- the members of a set
 

@@ -4,12 +4,12 @@ use mathlib.Core.Path.{sym, ap}
 use Prim.Native.Nat.{_-_}
 use native.Mathlib.Omega.{arith}
 use lib.Seq.{take-all}
-use Rattle.writer.specs.Writer.{afterFirst}
+use Rattle.members.specs.Members.{afterFirst}
 use Rattle.writer.specs.Writer.Places.{puts-as, puts-none, puts-then, lent}
-use Rattle.writer.specs.Writer.Members.{spaced-none, spaced-by}
+use Rattle.members.specs.Members.Laws.{spaced-none, spaced-by}
 use borrow.Author.Needs.{needs}
-use Rattle.writer.proofs.put_list.Statement.{statement}
-use Rattle.writer.proofs.put_list.Tie as tie
+use Rattle.members.proofs.put_list.Statement.{statement}
+use Rattle.members.proofs.put_list.Tie as tie
 
 returns : tie.Need-returns
 returns c = puts-as (sym (spaced-none (c .before .before .before .args .list .now) (c .if1 .taken))) (puts-none (omega arith))

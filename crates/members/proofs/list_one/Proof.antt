@@ -1,11 +1,11 @@
 use mathlib.Core.Path.{sym}
 use native.Mathlib.Omega.{arith}
 use borrow.Author.Tests.{not-true, not-false}
 use Rattle.writer.specs.Writer.Places.{puts-as, puts-none, put-in}
-use Rattle.writer.specs.Writer.Members.{noted-not, noted}
+use Rattle.members.specs.Members.Laws.{noted-not, noted}
 use borrow.Author.Needs.{needs}
-use Rattle.writer.proofs.list_one.Statement.{statement}
-use Rattle.writer.proofs.list_one.Tie as tie
+use Rattle.members.proofs.list_one.Statement.{statement}
+use Rattle.members.proofs.list_one.Tie as tie
 
 returns : tie.Need-returns
 returns c = puts-as (sym (noted-not (c .before .args .member) _ (not-true _ (c .if1 .taken)))) (puts-none (omega arith))

@@ -1,11 +1,11 @@
 -- What is listed is read back from the list: the members, at most 64.
 use mathlib.Core.Path.{refl, ap}
-use Rattle.writer.specs.Writer.{spaced}
+use Rattle.members.specs.Members.{spaced}
 use Rattle.writer.specs.Writer.Places.{puts-as}
-use Rattle.writer.specs.Writer.Members.{listed}
+use Rattle.members.specs.Members.Laws.{listed}
 use borrow.Author.Needs.{needs}
-use Rattle.writer.proofs.put_set.Statement.{statement}
-use Rattle.writer.proofs.put_set.Tie as tie
+use Rattle.members.proofs.put_set.Statement.{statement}
+use Rattle.members.proofs.put_set.Tie as tie
 
 slice-aggregate-list-members : tie.Need-slice-aggregate-list-members
 slice-aggregate-list-members c = refl

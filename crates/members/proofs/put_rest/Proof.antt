@@ -2,11 +2,11 @@
 use Prim.Native.Nat.{_-_}
 use native.Mathlib.Omega.{arith}
 use lib.ListN.{length}
 use Rattle.writer.specs.Writer.Places.{puts-long, lent}
-use Rattle.writer.specs.Writer.Members.{Spacing, spacing-start, spacing-more, spacing-end}
+use Rattle.members.specs.Members.Laws.{Spacing, spacing-start, spacing-more, spacing-end}
 use borrow.Author.Needs.{needs}
-use Rattle.writer.proofs.put_rest.Statement.{statement}
-use Rattle.writer.proofs.put_rest.Tie as tie
+use Rattle.members.proofs.put_rest.Statement.{statement}
+use Rattle.members.proofs.put_rest.Tie as tie
 
 abbrev Inv-loop : tie.InvT-loop
 Inv-loop out₀ at list next₀ i₀ out next i = Spacing list out₀ at next i out

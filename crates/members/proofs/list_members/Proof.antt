@@ -3,11 +3,11 @@ use Prim.Native.Nat.{_-_}
 use mathlib.Core.Path.{_∙_}
 use native.Mathlib.Omega.{arith}
 use lib.ListN.{length}
 use Rattle.writer.specs.Writer.Places.{puts-long}
-use Rattle.writer.specs.Writer.Members.{Halving, halving-start, halving-low, halving-more, halving-end}
+use Rattle.members.specs.Members.Laws.{Halving, halving-start, halving-low, halving-more, halving-end}
 use borrow.Author.Needs.{needs}
-use Rattle.writer.proofs.list_members.Statement.{statement}
-use Rattle.writer.proofs.list_members.Tie as tie
+use Rattle.members.proofs.list_members.Statement.{statement}
+use Rattle.members.proofs.list_members.Tie as tie
 
 abbrev Inv-loop : tie.InvT-loop
 Inv-loop list₀ set count₀ p₀ rest₀ list count p rest = Halving set list₀ count p rest list

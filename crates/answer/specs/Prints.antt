@@ -13,8 +13,8 @@ use Rattle.text.specs.declared.Reading.{Reading}
 use Rattle.handover.specs.Handover.{Lent}
 use Rattle.text.specs.Text.{Outcome, outcome, reading, read, graphFrom, Tells}
 use Rattle.text.specs.Text as text
-use Rattle.rows.specs.declared.Written.{Written}
-use Rattle.rows.specs.Result.{refusalRow, Writes}
+use Rattle.refusals.specs.declared.Written.{Written}
+use Rattle.refusals.specs.Writes.{refusalRow, Writes}
 use Rattle.report.specs.Report.{rowsOf}
 
 -- What is refused prints the refusal's row, and what is read the rows of its graph, by the sets that solve it.

@@ -1,5 +1,5 @@
 // What is printed for a text: the rows of its graph, or its refusal's row.
-use rows::Written;
+use refusals::Written;
 use text::Reading;
 ghost use Rattle.handover.specs.Handover.{lentOf};
 ghost use Rattle.answer.specs.Prints.{ReadsAnswers};
@@ -38,7 +38,7 @@ fn write_read(
                 &ways[0..m],
             )
         }
-        Reading::Refused(why) => rows::write_refusal(out, why),
+        Reading::Refused(why) => refusals::write_refusal(out, why),
     }
 }
 

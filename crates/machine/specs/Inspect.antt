@@ -2,17 +2,17 @@
 pub mod Laws
 pub mod Looking
 pub mod Impostors
-use Prim.Native.Nat.{ℕ, _<_, _≤_}
+use Prim.Native.Nat.{ℕ, _<_}
 use mathlib.Core.Path.{_≡_}
 use mathlib.Core.List.{List}
 use mathlib.Core.Bool.{true, false}
-use lib.ListN.{length, getD}
-use Rattle.truth.specs.Truth.{All}
+use lib.ListN.{length}
 use Rattle.graph.specs.Graph.{Graph, Acceptable}
 use Rattle.graph.specs.Refusals.{Numbered, _at_, numbered}
 use Rattle.graph.specs.Judge.{Refuses}
 use Rattle.graph.specs.declared.Refusal.{Refusal}
 use Rattle.verdict.specs.Verdict.{SetsLong}
+use Rattle.frames.specs.Frames.{StackFits}
 use Rattle.machine.specs.declared.Inspection.{Inspection}
 use Rattle.machine.specs.declared.Inspection.the-variants as answer
 use Rattle.stacks.specs.Machine.{rightsOf, Inspected, stackOf, full, quick}
@@ -21,15 +21,6 @@ use Rattle.stacks.specs.Machine.{rightsOf, Inspected, stackOf, full, quick}
 pub data Says-so : Inspection → Inspected → Type 0 where
   passes : {n : ℕ} → Says-so (answer.Passes n) (record { passes = true; looked = n })
   fails : {n : ℕ} → Says-so (answer.Fails n) (record { passes = false; looked = n })
-
--- A stack of node numbers below n in a slice of at most 1,024 places, height of them used.
-abbrev pub Frame : (n : ℕ) (stack : List ℕ) → ℕ → Type 0
-Frame n stack i = getD stack i 0 < n
-
-pub record StackFits (n : ℕ) (stack : List ℕ) (height : ℕ) : Type 0 where
-  pub slice : length stack ≤ 1024
-  pub held : height ≤ length stack
-  pub nodes : All (Frame n stack) height
 
 -- What a call may be asked: of an acceptable graph, with a permission or a node that is low enough, on a stack that fits.
 pub record Asks (g : Graph) (low : Type 0) (stack : List ℕ) (height : ℕ) : Type 0 where

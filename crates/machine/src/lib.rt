@@ -6,15 +6,13 @@ use sets::Set;
 ghost use mathlib.Core.Path.{_≡_};
 ghost use Prim.Native.Nat.{_<_, _≤_};
 ghost use lib.ListN.{length};
-ghost use Rattle.truth.specs.Truth.{Says, First, All};
+ghost use Rattle.truth.specs.Truth.{Says, All};
 ghost use Rattle.graph.specs.Graph.{graphOf, edgesOf, EdgesLong};
+ghost use Rattle.frames.specs.Frames.{Frame};
 ghost use Rattle.stacks.specs.Machine.{stackOf, rights, full, quick};
-ghost use Rattle.machine.specs.Inspect.{Says-so, Frame, StackFits, FullAnswers, QuickAnswers};
+ghost use Rattle.machine.specs.Inspect.{Says-so, FullAnswers, QuickAnswers};
 ghost use Rattle.machine.specs.Steps.{Denied, Steps};
 ghost use Rattle.machine.specs.Steps.Parts.{Placed, Takes};
-
-// How many places a stack's slice may have.
-const MOST_FRAMES: usize = 1024;
 
 // Whether the permission passes, with how many frames were looked at, the deciding one included.
 pub enum Inspection {
@@ -33,36 +31,6 @@ pub enum Stepped {
 enum Place {
     At(usize),
     Nowhere,
-}
-
-// The first frame that is no node, or height.
-fn first_bad_frame(n: usize, stack: &[u16], height: usize) -> usize
-    requires { ⌜ height ≤ length (now stack) ⌝ }
-    ensures { λ r. ⌜ First (Frame n (now (stack .entry))) height r ⌝ }
-{
-    let mut i = 0;
-    while i < height {
-        if n <= stack[i] as usize {
-            return i;
-        }
-        i += 1;
-    }
-    i
-}
-
-fn stack_fits(n: usize, stack: &[u16], height: usize) -> bool
-    ensures { λ r. ⌜ Says (StackFits n (now (stack .entry)) height) r ⌝ }
-{
-    if MOST_FRAMES < stack.len() {
-        return false;
-    }
-    if stack.len() < height {
-        return false;
-    }
-    if first_bad_frame(n, stack, height) < height {
-        return false;
-    }
-    true
 }
 
 // Full inspection, from the top down.
@@ -150,7 +118,7 @@ pub fn full(
     if k <= p {
         return Inspection::Refused(Refusal::Asked);
     }
-    if !stack_fits(n, stack, height) {
+    if !frames::stack_fits(n, stack, height) {
         return Inspection::Refused(Refusal::Stack);
     }
     look_full(privileged, grants, stack, height, p)
@@ -197,7 +165,7 @@ pub fn quick(
     if k <= p {
         return Inspection::Refused(Refusal::Asked);
     }
-    if !stack_fits(n, stack, height) {
+    if !frames::stack_fits(n, stack, height) {
         return Inspection::Refused(Refusal::Stack);
     }
     look_quick(denied, granted, stack, height, p)
@@ -340,7 +308,7 @@ pub fn step(
     if n <= next {
         return Stepped::Refused(Refusal::Asked);
     }
-    if !stack_fits(n, stack, height) {
+    if !frames::stack_fits(n, stack, height) {
         return Stepped::Refused(Refusal::Stack);
     }
     match find_place(m, kinds, entries, froms, tos, ways, stack, height, next) {

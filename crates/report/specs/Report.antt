@@ -7,9 +7,10 @@ use Rattle.graph.specs.Graph.{Graph, Acceptable, Slices, Content}
 use Rattle.graph.specs.Judge.{Judges}
 use Rattle.graph.specs.declared.Refusal.{Refusal}
 use Rattle.graph.specs.declared.Judged.the-variants as judged
-use Rattle.rows.specs.declared.Written.{Written}
-use Rattle.rows.specs.declared.Written.the-variants as written
-use Rattle.rows.specs.Result.{resultBytes, Writes}
+use Rattle.refusals.specs.declared.Written.{Written}
+use Rattle.refusals.specs.declared.Written.the-variants as written
+use Rattle.refusals.specs.Writes.{Writes}
+use Rattle.rows.specs.Result.{resultBytes}
 
 -- The rows of a graph, by the denied and granted sets of a content.
 abbrev pub rowsOf : Graph → Slices → List ℕ

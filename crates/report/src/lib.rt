@@ -2,7 +2,7 @@
 use graph::Judged;
 use graph::Refusal;
 use graph::Size;
-use rows::Written;
+use refusals::Written;
 ghost use Prim.Native.Nat.{_≤_};
 ghost use lib.ListN.{length};
 ghost use Rattle.graph.specs.Graph.{graphOf, ResultsLong};

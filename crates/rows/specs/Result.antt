@@ -1,4 +1,4 @@
--- The bytes that a result is printed as, and what the calls that write them promise. Definitions alone. 44 is the comma, 13 CR, 10 LF.
+-- The bytes that a result is printed as, and what the call that writes them promises. Definitions alone. 44 is the comma, 13 CR, 10 LF.
 pub mod Rows
 pub mod Calls
 use Prim.Native.Nat.{ℕ, zero, suc, _+_, _≤_}
@@ -6,16 +6,15 @@ use mathlib.Core.Path.{_≡_}
 use mathlib.Core.List.{List, [], _∷_, _++_}
 use mathlib.Core.Bool.{cond}
 use lib.ListN.{length, getD}
-use lib.Seq.{sets}
 use lib.Dec.{eqb}
 use Rattle.sets.specs.Sets.{has}
-use Rattle.writer.specs.Writer.{decimal, setBytes}
+use Rattle.writer.specs.Writer.{decimal}
+use Rattle.members.specs.Members.{setBytes}
 use Rattle.graph.specs.Graph.{verdictOf}
-use Rattle.graph.specs.Refusals.{numbered}
-use Rattle.graph.specs.declared.Refusal.{Refusal}
 use Rattle.graph.specs.declared.Refusal.the-variants as why
-use Rattle.rows.specs.declared.Written.{Written}
-use Rattle.rows.specs.declared.Written.the-variants.{Bytes, Refused}
+use Rattle.refusals.specs.declared.Written.{Written}
+use Rattle.refusals.specs.declared.Written.the-variants.{Refused}
+use Rattle.refusals.specs.Writes.{Writes}
 
 -- ---- Rows
 
@@ -27,13 +26,10 @@ abbrev pub rowBytes : (node kind check denied granted : ℕ) → List ℕ
 rowBytes node kind check denied granted =
     decimal node ++ 44 ∷ setBytes denied ++ 44 ∷ setBytes granted ++ 44 ∷ verdictBytes kind check denied granted ++ 13 ∷ 10 ∷ []
 
--- "node,denied,granted,verdict" and "refused,".
+-- "node,denied,granted,verdict".
 abbrev pub headerBytes : List ℕ
 headerBytes =
     110 ∷ 111 ∷ 100 ∷ 101 ∷ 44 ∷ 100 ∷ 101 ∷ 110 ∷ 105 ∷ 101 ∷ 100 ∷ 44 ∷ 103 ∷ 114 ∷ 97 ∷ 110 ∷ 116 ∷ 101 ∷ 100 ∷ 44 ∷ 118 ∷ 101 ∷ 114 ∷ 100 ∷ 105 ∷ 99 ∷ 116 ∷ 13 ∷ 10 ∷ []
-
-abbrev pub refusedBytes : List ℕ
-refusedBytes = 114 ∷ 101 ∷ 102 ∷ 117 ∷ 115 ∷ 101 ∷ 100 ∷ 44 ∷ []
 
 -- The rows of so many nodes, from node i on.
 unfoldable pub rowsFrom : (kinds checks denied granted : List ℕ) (i count : ℕ) → List ℕ
@@ -44,13 +40,7 @@ rowsFrom kinds checks denied granted i (suc count) =
 abbrev pub resultBytes : (n : ℕ) (kinds checks denied granted : List ℕ) → List ℕ
 resultBytes n kinds checks denied granted = headerBytes ++ rowsFrom kinds checks denied granted 0 n
 
-abbrev pub refusalRow : (number place : ℕ) → List ℕ
-refusalRow number place = refusedBytes ++ decimal number ++ 44 ∷ decimal place ++ 13 ∷ 10 ∷ []
-
-abbrev pub refusalBytes : Refusal → List ℕ
-refusalBytes r = refusalRow (numbered r .number) (numbered r .place)
-
--- ---- The calls
+-- ---- The call
 
 -- Every slice has an entry for each of at most 1,024 nodes.
 pub record Long (n kinds checks denied granted : ℕ) : Type 0 where
@@ -59,11 +49,6 @@ pub record Long (n kinds checks denied granted : ℕ) : Type 0 where
   pub checks-long : checks ≡ n
   pub denied-long : denied ≡ n
   pub granted-long : granted ≡ n
-
--- Bytes at the start of a buffer, and how many; or refusal 10 where it is too short for them, and nothing stored.
-pub data Writes (bytes before : List ℕ) : Written → List ℕ → Type 0 where
-  written : length bytes ≤ length before → Writes bytes before (Bytes (length bytes)) (sets before 0 bytes)
-  too-short : (length bytes ≤ length before → ⊥) → Writes bytes before (Refused why.NoRoom) before
 
 -- Refusal 1 for the slices' lengths comes first.
 pub data WritesResult (n : ℕ) (kinds checks denied granted before : List ℕ) : Written → List ℕ → Type 0 where

@@ -1,30 +1,26 @@
-// Writes a result's rows, or a refusal's row, as bytes.
+// Writes a result's rows as bytes.
 use graph::Refusal;
+use refusals::Written;
 use sets::Set;
 ghost use mathlib.Core.Path.{_≡_};
 ghost use mathlib.Core.List.{_∷_};
 ghost use lib.ListN.{length};
 ghost use Rattle.truth.specs.Truth.{Says};
-ghost use Rattle.writer.specs.Writer.{setBytes, Puts};
-ghost use Rattle.rows.specs.Result.{verdictBytes, rowBytes, rowsFrom, resultBytes, refusalRow, refusalBytes, Long, Writes, WritesResult};
+ghost use Rattle.writer.specs.Writer.{Puts};
+ghost use Rattle.members.specs.Members.{setBytes};
+ghost use Rattle.rows.specs.Result.{verdictBytes, rowBytes, rowsFrom, resultBytes, Long, WritesResult};
 
 // No row is longer, its end included; and so long is the header.
 const ROW_MOST: usize = 429;
 
 const HEADER_LONG: usize = 29;
 
-// How many bytes were written, or why none was.
-pub enum Written {
-    Bytes(usize),
-    Refused(Refusal),
-}
-
 // A comma and a set.
 fn put_set_field(out: &mut [u8], at: usize, set: u64) -> usize
     ensures { λ r. ⌜ Puts (44 ∷ setBytes set) (now (out .entry)) at r (now (out .exit)) ⌝ }
 {
     let next = writer::put(out, at, b',');
-    writer::put_set(out, next, set)
+    members::put_set(out, next, set)
 }
 
 // The verdict of a check, and nothing at any other node.
@@ -148,35 +144,4 @@ pub fn write_result(
     }
     put_result(out, n, kinds, checks, denied, granted);
     Written::Bytes(count)
-}
-
-fn put_refusal(out: &mut [u8], number: usize, place: usize) -> usize
-    ensures { λ r. ⌜ Puts (refusalRow number place) (now (out .entry)) 0 r (now (out .exit)) ⌝ }
-{
-    let a = writer::put_all(out, 0, b"refused,");
-    let b = writer::put_number(out, a, number);
-    let c = writer::put(out, b, b',');
-    let d = writer::put_number(out, c, place);
-    writer::put_all(out, d, b"\r\n")
-}
-
-fn count_refusal(number: usize, place: usize) -> usize
-    ensures { λ r. ⌜ r ≡ length (refusalRow number place) ⌝ }
-{
-    let mut nowhere = [0u8; 0];
-    put_refusal(&mut nowhere, number, place)
-}
-
-// Writes a refusal's row at the start of a buffer.
-pub fn write_refusal(out: &mut [u8], why: Refusal) -> Written
-    ensures { λ r. ⌜ Writes (refusalBytes why) (now (out .entry)) r (now (out .exit)) ⌝ }
-{
-    let number = why.number();
-    let place = why.place();
-    let needed = count_refusal(number, place);
-    if out.len() < needed {
-        return Written::Refused(Refusal::NoRoom);
-    }
-    put_refusal(out, number, place);
-    Written::Bytes(needed)
 }

@@ -1,7 +1,7 @@
 // Reads a graph's text from standard input and writes the result's rows, or the refusal's, to standard output. Nothing is written there unless the end
 // of the input was seen: a text that was cut short by a failed read may be a good text of another graph.
 use graph::Refusal;
-use rows::Written;
+use refusals::Written;
 use stream::Input;
 ghost use mathlib.Core.Path.{_≡_};
 ghost use mathlib.Core.List.{List};
@@ -104,7 +104,7 @@ fn print_answer(text: &[u8]) {
 // A text above 65,536 bytes is refused, and none of it has to be seen.
 fn print_too_long() {
     let mut out = [0u8; 64];
-    let Written::Bytes(count) = rows::write_refusal(&mut out, Refusal::TooLong) else {
+    let Written::Bytes(count) = refusals::write_refusal(&mut out, Refusal::TooLong) else {
         never();
         return;
     };

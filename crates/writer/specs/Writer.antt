@@ -1,7 +1,6 @@
--- Bytes at a place of a lent buffer: numbers, and sets as lists of numbers. Definitions alone. 32 is the space.
+-- Bytes at a place of a lent buffer, numbers among them. Definitions alone.
 pub mod Places
 pub mod Numbers
-pub mod Members
 use Prim.Native.Nat.{ℕ, zero, suc, _+_, _/_, _%_}
 use mathlib.Core.Path.{_≡_}
 use mathlib.Core.List.{List, [], _∷_, _++_}
@@ -10,7 +9,6 @@ use lib.ListN.{length}
 use lib.Seq.{sets}
 use lib.Dec.{ltb}
 use Rattle.io.specs.Digits.{glyph}
-use Rattle.sets.specs.Sets.{has}
 
 -- ---- Bytes
 
@@ -21,23 +19,6 @@ decimalBy (suc most) n = cond (ltb n 10) (glyph n ∷ []) (decimalBy most (n / 1
 
 abbrev pub decimal : ℕ → List ℕ
 decimal = decimalBy 20
-
--- The members of a set from p on, so many numbers looked at, lowest first.
-unfoldable pub membersFrom : (set p count : ℕ) → List ℕ
-membersFrom set p zero = []
-membersFrom set p (suc count) = cond (has set p) (p ∷ membersFrom set (p + 1) count) (membersFrom set (p + 1) count)
-
--- Numbers with one space between.
-unfoldable pub afterFirst : List ℕ → List ℕ
-afterFirst [] = []
-afterFirst (p ∷ ps) = 32 ∷ decimal p ++ afterFirst ps
-
-abbrev pub spaced : List ℕ → List ℕ
-spaced [] = []
-spaced (p ∷ ps) = decimal p ++ afterFirst ps
-
-abbrev pub setBytes : ℕ → List ℕ
-setBytes set = spaced (membersFrom set 0 64)
 
 -- ---- Places
 

@@ -20,7 +20,8 @@ use Rattle.graph.specs.declared.Judged.{Judged}
 use Rattle.graph.specs.declared.Judged.the-variants as judged
 use Rattle.text.specs.Text.{Outcome, onMeaning, onJudged, outcomeFrom, outcome, read, graphFrom}
 use Rattle.text.specs.Text.Gateway.{gatewayText, gatewayNodes, gatewayEdges, gateway-means, gateway-graph}
-use Rattle.writer.specs.Writer.{decimalBy, membersFrom, afterFirst}
+use Rattle.writer.specs.Writer.{decimalBy}
+use Rattle.members.specs.Members.{membersFrom, afterFirst}
 use Rattle.rows.specs.Result.{rowsFrom}
 use Rattle.report.specs.Report.{rowsOf}
 use Rattle.answer.specs.Prints.{Prints, printed}

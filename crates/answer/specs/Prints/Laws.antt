@@ -26,12 +26,13 @@ use Rattle.text.specs.Text.{Outcome, outcomeFrom, outcome, readingFrom, reading
 use Rattle.text.specs.Text as text
 use Rattle.text.specs.Text.Parts.{Places}
 use Rattle.text.specs.Text.Laws.{reading-roomy, outcome-accepted, stores-room, stored-held, reads-one}
-use Rattle.rows.specs.declared.Written.{Written}
-use Rattle.rows.specs.declared.Written.the-variants as written
-use Rattle.rows.specs.declared.Written.the-variants.{Bytes}
-use Rattle.rows.specs.Result.{Writes, written, too-short, refusalBytes, refusalRow}
-use Rattle.rows.specs.Result.Calls.{writes-one}
-use Rattle.rows.specs.Result.Rows.{result-short, refusal-short}
+use Rattle.refusals.specs.declared.Written.{Written}
+use Rattle.refusals.specs.declared.Written.the-variants as written
+use Rattle.refusals.specs.declared.Written.the-variants.{Bytes}
+use Rattle.refusals.specs.Writes.{Writes, written, too-short, refusalBytes, refusalRow}
+use Rattle.refusals.specs.Writes.Laws.{writes-one}
+use Rattle.refusals.specs.Writes.Laws.{refusal-short}
+use Rattle.rows.specs.Result.Rows.{result-short}
 use Rattle.report.specs.Report.{rowsOf, WritesGraph}
 use Rattle.report.specs.Report.Laws.{rows-only}
 use Rattle.answer.specs.Prints.{PrintsFor, refused, printed, Prints, AnswersFor, Answers, ReadsAnswers}

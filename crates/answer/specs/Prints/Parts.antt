@@ -10,8 +10,8 @@ use Rattle.text.specs.declared.Reading.{Reading}
 use Rattle.text.specs.declared.Reading.the-variants as reading
 use Rattle.handover.specs.Handover.{Lent}
 use Rattle.text.specs.Text.Parts.{Places}
-use Rattle.rows.specs.declared.Written.{Written}
-use Rattle.rows.specs.Result.{Writes, refusalBytes}
+use Rattle.refusals.specs.declared.Written.{Written}
+use Rattle.refusals.specs.Writes.{Writes, refusalBytes}
 use Rattle.report.specs.Report.{WritesGraph}
 
 -- The graph that the first places of the slices hold, as they are lent.

@@ -7,7 +7,8 @@ use Rattle.truth.specs.Truth.Tests.{says-true, says-false}
 use Rattle.graph.specs.Graph.{Graph, graphOf, Acceptable}
 use Rattle.graph.specs.Judge.Laws.{accepted-is, refused-is}
 use Rattle.machine.specs.Steps.Parts.{nowhere-refuses, takes-steps, place-low}
-use Rattle.machine.specs.Inspect.{StackFits, Asks, graph, asked, stack}
+use Rattle.frames.specs.Frames.{StackFits}
+use Rattle.machine.specs.Inspect.{Asks, graph, asked, stack}
 use Rattle.machine.specs.Steps.{Steps, StepRefuses}
 use borrow.Author.Needs.{needs}
 use Rattle.machine.proofs.step.Statement.{statement}

@@ -14,10 +14,11 @@ use Rattle.graph.specs.declared.Judged.{Judged}
 use Rattle.graph.specs.declared.Judged.the-variants as judged
 use Rattle.solver.specs.Solve.{Solves, solved}
 use Rattle.solver.specs.Solve as solve
-use Rattle.rows.specs.declared.Written.{Written}
-use Rattle.rows.specs.declared.Written.the-variants as written
-use Rattle.rows.specs.Result.{Long, Writes, WritesResult, shape, result}
-use Rattle.rows.specs.Result.Calls.{writes-one}
+use Rattle.refusals.specs.declared.Written.{Written}
+use Rattle.refusals.specs.declared.Written.the-variants as written
+use Rattle.refusals.specs.Writes.{Writes}
+use Rattle.rows.specs.Result.{Long, WritesResult, shape, result}
+use Rattle.refusals.specs.Writes.Laws.{writes-one}
 use Rattle.report.specs.Report.{rowsOf, WritesGraph, rows, no-graph}
 use Rattle.report.specs.Report.Parts.{WritesJudged, when-accepted, when-refused}
 

@@ -7,7 +7,7 @@ use crate::show::print;
 use crate::show::print_refusal;
 use crate::show::print_unless_kept;
 use graph::Refusal;
-use rows::Written;
+use refusals::Written;
 
 // Prints the first bytes of a buffer, and says so if the rest was written.
 fn print_first(buffer: &[u8], count: usize) {
@@ -56,7 +56,7 @@ fn numbered(number: usize, place: usize) -> Refusal {
 }
 
 fn refusal_to(buffer: &mut [u8], why: Refusal) {
-    let written = rows::write_refusal(buffer, why);
+    let written = refusals::write_refusal(buffer, why);
     print_written(written, buffer);
 }
 

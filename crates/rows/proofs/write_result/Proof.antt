@@ -4,7 +4,7 @@ use borrow.Author.Tests.{not-true, not-false}
 use Rattle.truth.specs.Truth.Tests.{says-true, says-false}
 use Rattle.rows.specs.Result.{shape, result}
 use Rattle.rows.specs.Result.Rows.{result-short}
-use Rattle.rows.specs.Result.Calls.{writes-none, writes-all, writes-close}
+use Rattle.refusals.specs.Writes.Laws.{writes-none, writes-all, writes-close}
 use borrow.Author.Needs.{needs}
 use Rattle.rows.proofs.write_result.Statement.{statement}
 use Rattle.rows.proofs.write_result.Tie as tie

@@ -11,11 +11,12 @@ use borrow.Author.Tests.{eq-eqb, ne-eqb}
 use Rattle.truth.specs.Truth.Bools.{by-split}
 use Rattle.sets.specs.Sets.{has}
 use Rattle.graph.specs.Graph.{verdictOf}
-use Rattle.writer.specs.Writer.{decimal, setBytes, lastPlace, Puts}
+use Rattle.writer.specs.Writer.{decimal, lastPlace, Puts}
 use Rattle.writer.specs.Writer.Places.{puts-none, puts-then, puts-as}
 use Rattle.writer.specs.Writer.Numbers.{decimal-short}
-use Rattle.writer.specs.Writer.Members.{set-short}
-use Rattle.rows.specs.Result.{verdictBytes, rowBytes, headerBytes, rowsFrom, resultBytes, refusalRow}
+use Rattle.members.specs.Members.{setBytes}
+use Rattle.members.specs.Members.Laws.{set-short}
+use Rattle.rows.specs.Result.{verdictBytes, rowBytes, headerBytes, rowsFrom, resultBytes}
 
 pub verdict-short : (kind check denied granted : ℕ) → length (verdictBytes kind check denied granted) ≤ 20
 verdict-short kind check denied granted = by-split (eqb kind 2) (λ t. simp t (decimal-short 20 _)) (λ t. simp t (omega arith))
@@ -87,11 +88,3 @@ module _ (kinds checks denied granted : List ℕ) where
 
   pub result-short : (n : ℕ) → length (resultBytes n kinds checks denied granted) ≤ n * 429 + 29
   result-short n = omega (arith, length-append headerBytes (rowsFrom kinds checks denied granted 0 n), rows-short 0 n)
-
--- ---- how long a refusal's row is
-
-pub refusal-short : (number place : ℕ) → length (refusalRow number place) ≤ 51
-refusal-short number place =
-    let a = decimal-short 20 number in
-    let b = decimal-short 20 place in
-    simp length-append (omega arith)

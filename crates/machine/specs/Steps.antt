@@ -2,6 +2,7 @@
 pub mod Parts
 pub mod Laws
 pub mod Sound
+pub mod Runs
 use Prim.Native.Nat.{ℕ, _<_, _+_, _-_}
 use mathlib.Core.Path.{_≡_}
 use mathlib.Core.List.{List}

@@ -35,7 +35,7 @@ pub struct Found<'a> {
 
 impl Found<'_> {
     pub fn rows(&self) -> Result<String, Refusal> {
-        if self.n > MOST_NODES || !self.lengths_fit() {
+        if self.n == 0 || self.n > MOST_NODES || !self.lengths_fit() {
             return Err(Refusal::without_place(1));
         }
         let rows: String = (0..self.n).map(|node| self.row(node)).collect();

@@ -2,7 +2,7 @@
 //! permissions, up to 64; nodes that nothing is said of are plain calls with all of them.
 
 use crate::build::empty_graph;
-use crate::graph::Graph;
+use crate::graph::{Graph, MOST_EDGES, MOST_NODES};
 
 /// Calls in a row, their edges listed backwards.
 pub fn chain(k: usize, nodes: usize) -> Graph {
@@ -10,6 +10,23 @@ pub fn chain(k: usize, nodes: usize) -> Graph {
     let start = empty_graph(k).call_node("E", &everything);
     let calls = (1..nodes).fold(start, |graph, _| graph.call_node("", &everything));
     (1..nodes as u16).rev().fold(calls, |graph, node| graph.call(node - 1, node))
+}
+
+/// As many nodes and edges as there may be, in a text that is short enough: ten nodes call all
+/// the others, and each other, but nobody calls the last of the ten.
+pub fn crowd() -> Graph {
+    let marks = ["E", "E", "P", "", "", "PE", "", "P", "E", ""];
+    let callers = marks.iter().zip(0..).fold(empty_graph(3), |graph, (marks, node)| {
+        graph.call_node(marks, [&[0, 1, 2][..], &[1], &[0, 1], &[2]][node % 4])
+    });
+    let nodes = (10..MOST_NODES).fold(callers, |graph, node| match node % 3 {
+        0 => graph.check_node((node % 2) as u16, "", &[0, 1]),
+        1 => graph.return_node("", &[0, 1]),
+        _ => graph.call_node("", &[1]),
+    });
+    let called = (10..MOST_NODES as u16).fold(nodes, |graph, node| graph.call(node % 10, node));
+    (called.m..MOST_EDGES)
+        .fold(called, |graph, edge| graph.call((edge % 10) as u16, (edge / 10 % 9) as u16))
 }
 
 /// One edge, over and over.

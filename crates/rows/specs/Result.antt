@@ -42,8 +42,9 @@ resultBytes n kinds checks denied granted = headerBytes ++ rowsFrom kinds checks
 
 -- ---- The call
 
--- Every slice has an entry for each of at most 1,024 nodes.
+-- Every slice has an entry for each of 1 to 1,024 nodes.
 pub record Long (n kinds checks denied granted : ℕ) : Type 0 where
+  pub many : 1 ≤ n
   pub few : n ≤ 1024
   pub kinds-long : kinds ≡ n
   pub checks-long : checks ≡ n

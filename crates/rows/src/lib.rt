@@ -92,10 +92,13 @@ fn put_result(
     put_rows(out, at, n, kinds, checks, denied, granted)
 }
 
-// Whether every slice has an entry for each of n nodes, by their lengths.
+// Whether there is a node, there are not too many, and every slice has an entry for each of them, by their lengths.
 fn is_long(n: usize, kinds: usize, checks: usize, denied: usize, granted: usize) -> bool
     ensures { λ r. ⌜ Says (Long n kinds checks denied granted) r ⌝ }
 {
+    if n == 0 {
+        return false;
+    }
     if graph::MOST_NODES < n {
         return false;
     }

@@ -13,7 +13,7 @@ const LARGEST: u64 = 400_000;
 pub fn cases() -> Vec<Case> {
     [
         gateway_buffers(),
-        header_alone(),
+        no_nodes(),
         lengths(),
         nodes(),
         most_nodes(),
@@ -51,14 +51,13 @@ fn gateway_buffers() -> Vec<Case> {
     ]
 }
 
-/// No nodes: printing judges no graph.
-fn header_alone() -> Vec<Case> {
+/// No nodes are refused, though the header alone would fit.
+fn no_nodes() -> Vec<Case> {
     let none = Graph::default();
     vec![
-        printed("header alone, 29 bytes", &none, &[], 29),
-        printed("header alone, 28 bytes", &none, &[], 28),
-        printed("header alone, no bytes", &none, &[], 0),
-        printed("header alone, 30 bytes", &none, &[], 30),
+        printed("no nodes, 29 bytes", &none, &[], 29),
+        printed("no nodes, no bytes", &none, &[], 0),
+        printed("no nodes, the largest buffer", &none, &[], LARGEST),
     ]
 }
 

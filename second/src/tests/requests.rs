@@ -189,7 +189,7 @@ fn printing_judges_no_graph() {
     assert_eq!(calls(graph, &asked), "node,denied,granted,verdict\r\n".to_string() + &rows);
     assert_eq!(calls(graph, "8 400000"), "refused,1,0\r\n");
     let none = "0 0 0 0 0 0 0 0 0 0 0";
-    assert_eq!(calls(none, "8 29 8 28"), "node,denied,granted,verdict\r\nrefused,10,0\r\n");
+    assert_eq!(calls(none, "8 29 8 28"), "refused,1,0\r\nrefused,1,0\r\n");
 }
 
 #[test]

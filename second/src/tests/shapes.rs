@@ -1,9 +1,11 @@
 //! The shapes are graphs, and take as many rounds as they are there for.
 
-use crate::graph::Graph;
+use crate::graph::{Graph, MOST_EDGES, MOST_NODES};
+use crate::requests::rows_of;
 use crate::sets;
-use crate::shapes::{chain, doubled, laps, ring};
+use crate::shapes::{chain, crowd, doubled, laps, ring};
 use crate::solve::{incoming_edges, may_round, solve};
+use crate::text::LONGEST_TEXT;
 
 fn may_rounds(graph: &Graph) -> usize {
     let incoming = incoming_edges(graph);
@@ -48,4 +50,12 @@ fn laps_end_with_every_permission_on_the_ring() {
     let solution = solve(&graph).unwrap();
     assert_eq!(solution.denied[graph.n - 1], sets::EMPTY);
     assert_eq!(solution.granted[129], sets::EMPTY);
+}
+
+#[test]
+fn a_crowd_is_at_the_limits() {
+    let graph = crowd();
+    assert_eq!((graph.n, graph.m), (MOST_NODES, MOST_EDGES));
+    assert!(solve(&graph).is_ok());
+    assert!(rows_of(&graph).len() <= LONGEST_TEXT, "{}", rows_of(&graph).len());
 }

@@ -28,6 +28,7 @@ same-refusal e = cc
 module _ (g : Graph) where
   rows-long : {t : Slices} → Acceptable g → Content g t → Long (g .size .n) (length (g .nodes .kinds)) (length (g .nodes .checks)) (length (t .denied)) (length (t .granted))
   rows-long acc c = record {
+    many = acc .shape .ranges .n-low;
     few = acc .shape .ranges .n-high;
     kinds-long = acc .shape .nodes .kinds;
     checks-long = acc .shape .nodes .checks;

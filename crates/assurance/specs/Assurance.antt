@@ -7,7 +7,7 @@ use mathlib.Core.Bool.{true, false}
 use lib.ListN.{length}
 use Rattle.truth.specs.Truth.Bools.{clash}
 use Rattle.graph.specs.Graph.{Graph, check, Slices, Acceptable, Content}
-use Rattle.graph.specs.Refusals.{numbered-one}
+use Rattle.graph.specs.Refusals.Laws.{numbered-one}
 use Rattle.graph.specs.declared.Refusal.{Refusal}
 use Rattle.graph.specs.declared.Judged.the-variants.{Accepted}
 use Rattle.solver.specs.Solve.{Solves, solved}

@@ -13,7 +13,8 @@ use Rattle.truth.specs.Truth.Bools.{by-split}
 use Rattle.sets.specs.Sets.Members.{below-members}
 use Rattle.graph.specs.Graph.{Graph, PerNode, PerEdge, mapNode, mapEdge, EachNode, EachEdge, everyNode, everyEdge, Ranges, Shape, NodeRule, EdgeRule, EndsRule, NodeObeys, EdgeObeys, NoEntry, Acceptable}
 use Rattle.graph.specs.declared.Size.{Size}
-use Rattle.graph.specs.Refusals.{Numbered, _at_, numbered, refusal, refusal-numbered}
+use Rattle.graph.specs.Refusals.{Numbered, _at_, numbered}
+use Rattle.graph.specs.Refusals.Laws.{refusal, refusal-numbered}
 use Rattle.graph.specs.Judge.{Refuses, shape, node, edge, entry, Judges, accepted, refused, rangeTest, shapeTest, nodeTest, edgeTest, noEntry, judge}
 use Rattle.graph.specs.declared.Refusal.{Refusal}
 use Rattle.graph.specs.declared.Refusal.the-variants as why

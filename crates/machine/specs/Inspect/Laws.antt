@@ -5,7 +5,8 @@ use mathlib.Core.List.{List}
 use lib.ListN.{length}
 use mathlib.Core.Bool.{Bool, true, false, cond}
 use Rattle.graph.specs.Graph.{Graph}
-use Rattle.graph.specs.Refusals.{Numbered, _at_, numbered, numbered-one}
+use Rattle.graph.specs.Refusals.{Numbered, _at_, numbered}
+use Rattle.graph.specs.Refusals.Laws.{numbered-one}
 use Rattle.graph.specs.Judge.Laws.{refuses-one, refuses-not}
 use Rattle.graph.specs.declared.Refusal.{Refusal}
 use Rattle.machine.specs.declared.Inspection.{Inspection}

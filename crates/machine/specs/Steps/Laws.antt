@@ -5,7 +5,8 @@ use mathlib.Core.List.{List}
 use lib.ListN.{length, set}
 use native.Mathlib.Omega.{arith}
 use Rattle.graph.specs.Graph.{Graph, PerEdge}
-use Rattle.graph.specs.Refusals.{Numbered, numbered, numbered-one}
+use Rattle.graph.specs.Refusals.{Numbered, numbered}
+use Rattle.graph.specs.Refusals.Laws.{numbered-one}
 use Rattle.machine.specs.declared.Stepped.{Stepped}
 use Rattle.machine.specs.declared.Stepped.the-variants as answer
 use Rattle.machine.specs.Inspect.{Asks}

@@ -2,7 +2,8 @@
 use mathlib.Core.Path.{_≡_, refl, ap}
 use Rattle.graph.specs.Graph.{Graph, Acceptable, Slices}
 use Rattle.graph.specs.Graph.Results.{content-one}
-use Rattle.graph.specs.Refusals.{Numbered, numbered-one}
+use Rattle.graph.specs.Refusals.{Numbered}
+use Rattle.graph.specs.Refusals.Laws.{numbered-one}
 use Rattle.graph.specs.Judge.Laws.{refuses-one, refuses-not}
 use Rattle.graph.specs.declared.Judged.{Judged}
 use Rattle.graph.specs.declared.Judged.the-variants.{Refused}

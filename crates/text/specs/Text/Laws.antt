@@ -9,7 +9,8 @@ use borrow.Author.Tests.{lt-ltb, le-ltb}
 use Rattle.truth.specs.Truth.Bools.{by-split}
 use Rattle.truth.specs.Truth.Tests.{true-says, false-says}
 use Rattle.graph.specs.Graph.{Graph, sizeOf, mapNode, mapEdge, NodesLong, EdgesLong, Ranges, Acceptable}
-use Rattle.graph.specs.Refusals.{numbered, numbered-one, _at_}
+use Rattle.graph.specs.Refusals.{numbered, _at_}
+use Rattle.graph.specs.Refusals.Laws.{numbered-one}
 use Rattle.graph.specs.Judge.{Judges, judge}
 use Rattle.graph.specs.Judge.Laws.{judge-judges, judges-judge, accepted-is}
 use Rattle.graph.specs.declared.Size.{Size}

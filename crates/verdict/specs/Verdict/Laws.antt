@@ -5,7 +5,8 @@ use mathlib.Core.List.{List, [], _∷_}
 use lib.ListN.{getD}
 use Rattle.truth.specs.Truth.Bools.{clash}
 use Rattle.graph.specs.Graph.{Graph}
-use Rattle.graph.specs.Refusals.{Numbered, numbered-one}
+use Rattle.graph.specs.Refusals.{Numbered}
+use Rattle.graph.specs.Refusals.Laws.{numbered-one}
 use Rattle.graph.specs.Judge.Laws.{refuses-one, refuses-not}
 use Rattle.verdict.specs.declared.Finding.{Finding}
 use Rattle.verdict.specs.declared.Finding.the-variants.{Needed, AlwaysPasses, AlwaysFails, NeverReached}

@@ -1,4 +1,5 @@
-use lib.ListN.{length}
+use Prim.Native.Nat.{ℕ}
+use lib.ListN.{length, length-replicate}
 use mathlib.Core.Path.{_≡_}
 use borrow.Author.Needs.{needs}
 use Rattle.requests.proofs.main.Statement.{statement}
@@ -11,7 +12,7 @@ abbrev μ-loop : tie.MeasureT-loop
 μ-loop buffer₀ left₀ buffer left = left
 
 loop-holds : tie.Need-loop-holds Inv-loop μ-loop
-loop-holds c = search needs
+loop-holds c = length-replicate {A = ℕ} 100000 0
 
 slice-aggregate-serve : tie.Need-slice-aggregate-serve Inv-loop μ-loop
 slice-aggregate-serve c = search needs

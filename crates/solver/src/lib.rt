@@ -1,43 +1,16 @@
 // The solver: for every node what is surely denied and surely granted, by the two equation systems.
+use flow::Leaving;
 use graph::Judged;
 use graph::Refusal;
 use graph::Size;
-use sets::Set;
 ghost use mathlib.Core.Path.{_≡_};
-ghost use mathlib.Core.Bool.{true, false, _&&_};
-ghost use lib.Dec.{eqb};
 ghost use Prim.Native.Nat.{ℕ, _+_, _-_, _≤_, _<_};
 ghost use lib.ListN.{length, getD};
-ghost use Rattle.truth.specs.Truth.{Says};
-ghost use Rattle.sets.specs.Sets.{has, all, without};
 ghost use Rattle.graph.specs.Graph.{graphOf, sizeOf, Acceptable, Content, ResultsLong};
 ghost use Rattle.worklist.specs.Worklist.{Linked};
-ghost use Rattle.flow.specs.Walk.{systemOf, callNum, pastNum, transNum, judgedNum, movedBy, carriedBy, state, arrive, sendFrom, Bringable, Brings, Sendable, Merged, Delivered, Begun, Leaves, Carriable, Storable, NodesStored, Setting, Walking};
+ghost use Rattle.flow.specs.Walk.{systemOf, countsNum, carriedBy, state, arrive, sendFrom, Bringable, Brings, Sendable, Merged, Delivered, Begun, LeavesAt, Carriable, Storable, NodesStored, Setting, Walking};
 ghost use Rattle.flow.specs.Walk.Settled.{Settled};
 ghost use Rattle.solver.specs.Solve.{slices, Solves};
-
-// The set by which the set v of edge e is judged.
-fn judged(sure: bool, wide: &[u64], e: usize, v: u64) -> u64
-    requires { ⌜ e < length (now wide) ⌝ }
-    ensures { λ r. ⌜ r ≡ judgedNum (systemOf sure) (getD (now (wide .entry)) e 0) v ⌝ }
-{
-    if sure {
-        return wide[e];
-    }
-    v
-}
-
-// Whether the set v of edge e counts at the node that it arrives at. Most nodes are no checks, and there `wide` is not read.
-fn counts_at(sure: bool, wide: &[u64], e: usize, v: u64, kind: u8, check: u16) -> bool
-    requires { ⌜ e < length (now wide) ⌝ }
-    ensures { λ r. ⌜ r ≡ (eqb kind 2 && has (judgedNum (systemOf sure) (getD (now (wide .entry)) e 0) v) check) ⌝ }
-{
-    if kind != graph::KIND_CHECK {
-        return false;
-    }
-    let by = judged(sure, wide, e, v);
-    flow::counts(kind, check, by)
-}
 
 // A set arrives in a sum of node b. Whether that changed the sum.
 fn merge_at(sums: &mut [u64], sure: bool, b: usize, v: u64) -> bool
@@ -66,6 +39,21 @@ fn deliver(ins: &mut [u64], past: &mut [u64], sure: bool, b: usize, v: u64, coun
     more | passing
 }
 
+// Whether the set v of edge e counts at the node that it arrives at. Most nodes are no checks, and MAY judges a set by itself: there
+// `wide` is not read.
+fn counts_at(sure: bool, kind: u8, check: u16, wide: &[u64], e: usize, v: u64) -> bool
+    requires { ⌜ e < length (now wide) ⌝ }
+    ensures { λ r. ⌜ r ≡ countsNum (systemOf sure) kind check (getD (now (wide .entry)) e 0) v ⌝ }
+{
+    if kind != graph::KIND_CHECK {
+        return false;
+    }
+    if sure {
+        return flow::counts(sure, kind, check, wide[e], v);
+    }
+    flow::counts(sure, kind, check, 0, v)
+}
+
 // What an edge brings: to which node, which set, and whether it counts there.
 struct Brought {
     to: usize,
@@ -91,7 +79,7 @@ fn bring(
 {
     let to = tos[e] as usize;
     let set = flow::carry(ways[e], call, trans, grants[to]);
-    let counted = counts_at(sure, wide, e, set, kinds[to], checks[to]);
+    let counted = counts_at(sure, kinds[to], checks[to], wide, e, set);
     Brought {
         to: to,
         set: set,
@@ -176,62 +164,7 @@ fn begin(
     }
 }
 
-// The trans set of a check with the sums `arrived` and `past`.
-fn beyond(
-    sure: bool,
-    kind: u8,
-    check: u16,
-    privileged: u8,
-    grants: u64,
-    arrived: u64,
-    past: u64,
-    any: u64,
-) -> u64
-    ensures { λ r. ⌜ r ≡ transNum kind check privileged grants arrived (pastNum (systemOf sure) check past (has any check)) ⌝ }
-{
-    let passed = flow::passed(sure, check, past, any);
-    flow::moved(kind, check, privileged, grants, arrived, passed)
-}
-
-// The trans set of node i.
-fn trans_at(
-    sure: bool,
-    i: usize,
-    kinds: &[u8],
-    checks: &[u16],
-    privileged: &[u8],
-    grants: &[u64],
-    any: &[u64],
-    ins: &[u64],
-    past: &[u64],
-) -> u64
-    requires { ⌜ (i < length (now kinds)) × (i < length (now checks)) × (i < length (now privileged)) × (i < length (now grants)) ⌝ }
-    requires { ⌜ (i < length (now any)) × (i < length (now ins)) × (i < length (now past)) ⌝ }
-    ensures { λ r. ⌜ r ≡ movedBy (now (kinds .entry)) (now (checks .entry)) (now (privileged .entry)) (now (grants .entry)) (systemOf sure) (now (any .entry)) (now (ins .entry)) (now (past .entry)) i ⌝ }
-{
-    let kind = kinds[i];
-    let arrived = ins[i];
-    if kind != graph::KIND_CHECK {
-        return arrived;
-    }
-    beyond(
-        sure,
-        kind,
-        checks[i],
-        privileged[i],
-        grants[i],
-        arrived,
-        past[i],
-        any[i],
-    )
-}
-
-// What leaves a node: its call set and its trans set.
-struct Leaving {
-    call: u64,
-    trans: u64,
-}
-
+// What leaves node i.
 fn leave(
     sure: bool,
     i: usize,
@@ -245,14 +178,18 @@ fn leave(
 ) -> Leaving
     requires { ⌜ (i < length (now kinds)) × (i < length (now checks)) × (i < length (now privileged)) × (i < length (now grants)) ⌝ }
     requires { ⌜ (i < length (now any)) × (i < length (now ins)) × (i < length (now past)) ⌝ }
-    ensures { λ r. ⌜ Leaves (now (kinds .entry)) (now (checks .entry)) (now (privileged .entry)) (now (grants .entry)) (systemOf sure) (now (any .entry)) (now (ins .entry)) (now (past .entry)) i (r .call) (r .trans) ⌝ }
+    ensures { λ r. ⌜ LeavesAt (now (kinds .entry)) (now (checks .entry)) (now (privileged .entry)) (now (grants .entry)) (systemOf sure) (now (any .entry)) (now (ins .entry)) (now (past .entry)) i (r .call) (r .trans) ⌝ }
 {
-    let call = flow::called(privileged[i], grants[i], ins[i]);
-    let trans = trans_at(sure, i, kinds, checks, privileged, grants, any, ins, past);
-    Leaving {
-        call: call,
-        trans: trans,
-    }
+    flow::leave(
+        sure,
+        kinds[i],
+        checks[i],
+        privileged[i],
+        grants[i],
+        ins[i],
+        past[i],
+        any[i],
+    )
 }
 
 // The out set of edge e, from the sums of the nodes.
@@ -319,16 +256,6 @@ fn store_outs(
     }
 }
 
-// The denied set of a node with MAY's sum `arrived`.
-fn deny(k: usize, privileged: u8, grants: u64, arrived: u64) -> u64
-    ensures { λ r. ⌜ r ≡ without (all k) (callNum privileged grants arrived) ⌝ }
-{
-    let may = Set {
-        bits: flow::called(privileged, grants, arrived),
-    };
-    Set::all(k).without(may).bits
-}
-
 // The denied and granted sets of all nodes, from the sums of both systems.
 fn store_nodes(
     denied: &mut [u64],
@@ -347,7 +274,7 @@ fn store_nodes(
     while i < n {
         let mark = privileged[i];
         let own = grants[i];
-        denied[i] = deny(k, mark, own, may_ins[i]);
+        denied[i] = flow::deny(k, mark, own, may_ins[i]);
         granted[i] = flow::called(mark, own, sure_ins[i]);
         i += 1;
     }

@@ -1,6 +1,6 @@
 use borrow.Author.Needs.{needs}
-use Rattle.solver.proofs.deny.Statement.{statement}
-use Rattle.solver.proofs.deny.Tie as tie
+use Rattle.flow.proofs.deny.Statement.{statement}
+use Rattle.flow.proofs.deny.Tie as tie
 
 called-requires : tie.Need-called-requires
 called-requires c κs = search needs

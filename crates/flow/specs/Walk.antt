@@ -182,10 +182,6 @@ pub record Brings (kinds checks grants tos ways : List ℕ) (y : System) (w : Li
   pub set-sent : v ≡ edgeNum (getD ways e 0) c t (getD grants (getD tos e 0) 0)
   pub counts-so : counted ≡ countsBy kinds checks tos y w e v
 
-pub record Merged (y : System) (s : List ℕ) (b v : ℕ) (s′ : List ℕ) (r : Bool) : Type 0 where
-  pub sums : s′ ≡ into y s b v
-  pub told : r ≡ changes y s b v
-
 pub record Delivered (y : System) (s q : List ℕ) (b v : ℕ) (counted : Bool) (s′ q′ : List ℕ) (r : Bool) : Type 0 where
   pub ins : s′ ≡ into y s b v
   pub past : q′ ≡ cond counted (into y q b v) q
@@ -199,35 +195,6 @@ pub record Begun (y : System) (k n : ℕ) (checks entries grants s q : List ℕ)
 abbrev pub LeavesAt : (kinds checks privileged grants : List ℕ) → System → (a s q : List ℕ) (n c t : ℕ) → Type 0
 LeavesAt kinds checks privileged grants y a s q n c t =
     Leaves y (getD kinds n 0) (getD checks n 0) (getD privileged n 0) (getD grants n 0) (getD s n 0) (getD q n 0) (getD a n 0) c t
-
--- what one edge's out set needs of the slices
-pub record Carriable (kinds checks privileged grants froms tos ways a s q : List ℕ) (e : ℕ) : Type 0 where
-  pub from : e < length froms
-  pub to : e < length tos
-  pub way : e < length ways
-  pub kind : getD froms e 0 < length kinds
-  pub check : getD froms e 0 < length checks
-  pub mark : getD froms e 0 < length privileged
-  pub grant : getD froms e 0 < length grants
-  pub any : getD froms e 0 < length a
-  pub ins : getD froms e 0 < length s
-  pub past : getD froms e 0 < length q
-  pub into-grant : getD tos e 0 < length grants
-
-pub record Storable (n m out : ℕ) (kinds checks privileged grants froms tos ways a s q : List ℕ) : Type 0 where
-  pub out-long : m ≤ out
-  pub kinds-long : n ≤ length kinds
-  pub checks-long : n ≤ length checks
-  pub privileged-long : n ≤ length privileged
-  pub grants-long : n ≤ length grants
-  pub froms-long : m ≤ length froms
-  pub tos-long : m ≤ length tos
-  pub ways-long : m ≤ length ways
-  pub any-long : n ≤ length a
-  pub ins-long : n ≤ length s
-  pub past-long : n ≤ length q
-  pub starts : (e : ℕ) → e < m → getD froms e 0 < n
-  pub ends : (e : ℕ) → e < m → getD tos e 0 < n
 
 pub record NodesStored (k n : ℕ) (privileged grants may-ins sure-ins denied granted : List ℕ) : Type 0 where
   pub denies : (i : ℕ) → i < n → getD denied i 0 ≡ deniedNum k (getD privileged i 0) (getD grants i 0) (getD may-ins i 0)

@@ -5,39 +5,13 @@ use graph::Refusal;
 use graph::Size;
 ghost use mathlib.Core.Path.{_≡_};
 ghost use Prim.Native.Nat.{ℕ, _+_, _-_, _≤_, _<_};
+ghost use mathlib.Core.Bool.{false};
 ghost use lib.ListN.{length, getD};
 ghost use Rattle.graph.specs.Graph.{graphOf, sizeOf, Acceptable, Content, ResultsLong};
 ghost use Rattle.worklist.specs.Worklist.{Linked};
-ghost use Rattle.flow.specs.Walk.{systemOf, countsNum, carriedBy, state, arrive, sendFrom, Bringable, Brings, Sendable, Merged, Delivered, Begun, LeavesAt, Carriable, Storable, NodesStored, Setting, Walking};
+ghost use Rattle.flow.specs.Walk.{systemOf, countsNum, state, arrive, sendFrom, Bringable, Brings, Sendable, LeavesAt, NodesStored, Setting, Walking};
 ghost use Rattle.flow.specs.Walk.Settled.{Settled};
 ghost use Rattle.solver.specs.Solve.{slices, Solves};
-
-// A set arrives in a sum of node b. Whether that changed the sum.
-fn merge_at(sums: &mut [u64], sure: bool, b: usize, v: u64) -> bool
-    requires { ⌜ b < length (now sums) ⌝ }
-    ensures { λ r. ⌜ Merged (systemOf sure) (now (sums .entry)) b v (now (sums .exit)) r ⌝ }
-{
-    let sum = sums[b];
-    let more = flow::merge(sure, sum, v);
-    if more == sum {
-        return false;
-    }
-    sums[b] = more;
-    true
-}
-
-// A set arrives at node b, and counts there or not. Whether a sum of the node changed.
-fn deliver(ins: &mut [u64], past: &mut [u64], sure: bool, b: usize, v: u64, counted: bool) -> bool
-    requires { ⌜ (b < length (now ins)) × (b < length (now past)) ⌝ }
-    ensures { λ r. ⌜ Delivered (systemOf sure) (now (ins .entry)) (now (past .entry)) b v counted (now (ins .exit)) (now (past .exit)) r ⌝ }
-{
-    let more = merge_at(ins, sure, b, v);
-    if !counted {
-        return more;
-    }
-    let passing = merge_at(past, sure, b, v);
-    more | passing
-}
 
 // Whether the set v of edge e counts at the node that it arrives at. Most nodes are no checks, and MAY judges a set by itself: there
 // `wide` is not read.
@@ -102,7 +76,7 @@ fn arrive(
     requires { ⌜ (b < length (now ins)) × (b < length (now past)) ⌝ }
     ensures { λ r. ⌜ state (now (ins .exit)) (now (past .exit)) (now (marks .exit)) (now (stack .exit)) r ≡ arrive (systemOf sure) (state (now (ins .entry)) (now (past .entry)) (now (marks .entry)) (now (stack .entry)) top) b v counted ⌝ }
 {
-    let changed = deliver(ins, past, sure, b, v, counted);
+    let changed = sums::deliver(ins, past, sure, b, v, counted);
     worklist::put(marks, stack, b, changed, top)
 }
 
@@ -140,30 +114,6 @@ fn send(
     t
 }
 
-// The sums of all nodes before anything but the entry marks arrives.
-fn begin(
-    ins: &mut [u64],
-    past: &mut [u64],
-    sure: bool,
-    k: usize,
-    n: usize,
-    checks: &[u16],
-    entries: &[u8],
-    grants: &[u64],
-)
-    requires { ⌜ (n ≤ length (now ins)) × (n ≤ length (now past)) × (n ≤ length (now checks)) × (n ≤ length (now entries)) × (n ≤ length (now grants)) ⌝ }
-    ensures { λ r. ⌜ Begun (systemOf sure) k n (now (checks .entry)) (now (entries .entry)) (now (grants .entry)) (now (ins .exit)) (now (past .exit)) ⌝ }
-{
-    let mut i = 0;
-    while i < n {
-        let entry = entries[i];
-        let own = grants[i];
-        ins[i] = flow::first_sum(sure, k, entry, own);
-        past[i] = flow::first_passing(sure, k, entry, own, checks[i]);
-        i += 1;
-    }
-}
-
 // What leaves node i.
 fn leave(
     sure: bool,
@@ -190,70 +140,6 @@ fn leave(
         past[i],
         any[i],
     )
-}
-
-// The out set of edge e, from the sums of the nodes.
-fn out_of(
-    sure: bool,
-    e: usize,
-    kinds: &[u8],
-    checks: &[u16],
-    privileged: &[u8],
-    grants: &[u64],
-    froms: &[u16],
-    tos: &[u16],
-    ways: &[u8],
-    any: &[u64],
-    ins: &[u64],
-    past: &[u64],
-) -> u64
-    requires { ⌜ Carriable (now kinds) (now checks) (now privileged) (now grants) (now froms) (now tos) (now ways) (now any) (now ins) (now past) e ⌝ }
-    ensures { λ r. ⌜ r ≡ carriedBy (now (kinds .entry)) (now (checks .entry)) (now (privileged .entry)) (now (grants .entry)) (now (froms .entry)) (now (tos .entry)) (now (ways .entry)) (systemOf sure) (now (any .entry)) (now (ins .entry)) (now (past .entry)) e ⌝ }
-{
-    let a = froms[e] as usize;
-    let b = tos[e] as usize;
-    let x = leave(sure, a, kinds, checks, privileged, grants, any, ins, past);
-    flow::carry(ways[e], x.call, x.trans, grants[b])
-}
-
-// The out sets of all edges, from the sums of the nodes.
-fn store_outs(
-    out: &mut [u64],
-    sure: bool,
-    n: usize,
-    m: usize,
-    kinds: &[u8],
-    checks: &[u16],
-    privileged: &[u8],
-    grants: &[u64],
-    froms: &[u16],
-    tos: &[u16],
-    ways: &[u8],
-    any: &[u64],
-    ins: &[u64],
-    past: &[u64],
-)
-    requires { ⌜ Storable n m (length (now out)) (now kinds) (now checks) (now privileged) (now grants) (now froms) (now tos) (now ways) (now any) (now ins) (now past) ⌝ }
-    ensures { λ r. ⌜ ((e : ℕ) → e < m → getD (now (out .exit)) e 0 ≡ carriedBy (now (kinds .entry)) (now (checks .entry)) (now (privileged .entry)) (now (grants .entry)) (now (froms .entry)) (now (tos .entry)) (now (ways .entry)) (systemOf sure) (now (any .entry)) (now (ins .entry)) (now (past .entry)) e) ⌝ }
-{
-    let mut e = 0;
-    while e < m {
-        out[e] = out_of(
-            sure,
-            e,
-            kinds,
-            checks,
-            privileged,
-            grants,
-            froms,
-            tos,
-            ways,
-            any,
-            ins,
-            past,
-        );
-        e += 1;
-    }
 }
 
 // The denied and granted sets of all nodes, from the sums of both systems.
@@ -338,8 +224,8 @@ fn walk(
 
 // One system: the sums of its nodes, and the out sets of its edges.
 fn run(
-    ins: &mut [u64],
-    past: &mut [u64],
+    ins: &mut [u64; graph::MOST_NODES],
+    past: &mut [u64; graph::MOST_NODES],
     out: &mut [u64],
     sure: bool,
     size: Size,
@@ -359,12 +245,13 @@ fn run(
     requires { ⌜ Setting (graphOf size (now kinds) (now checks) (now privileged) (now entries) (now grants) (now froms) (now tos) (now ways)) (systemOf sure) (now wide) (now any) ⌝ }
     requires { ⌜ Linked (now froms) (size .n) (now head) (now prev) (size .m) ⌝ }
     requires { ⌜ (size .m ≤ length (now wide)) × (size .n ≤ length (now any)) × (size .n ≤ length (now head)) × (size .m ≤ length (now prev)) ⌝ }
-    requires { ⌜ (size .n ≤ length (now ins)) × (size .n ≤ length (now past)) × (size .m ≤ length (now out)) ⌝ }
+    requires { ⌜ size .m ≤ length (now out) ⌝ }
+    ensures { λ r. ⌜ (length (now (ins .exit)) ≡ 1024) × (length (now (past .exit)) ≡ 1024) ⌝ }
     ensures { λ r. ⌜ Settled (graphOf size (now (kinds .entry)) (now (checks .entry)) (now (privileged .entry)) (now (entries .entry)) (now (grants .entry)) (now (froms .entry)) (now (tos .entry)) (now (ways .entry))) (systemOf sure) (now (wide .entry)) (now (any .entry)) (now (ins .exit)) (now (past .exit)) (now (out .exit)) ⌝ }
 {
     let mut marks = [worklist::MARKED; graph::MOST_NODES];
     let mut stack = [0u16; graph::MOST_NODES];
-    begin(ins, past, sure, size.k, size.n, checks, entries, grants);
+    sums::begin(ins, past, sure, size.k, size.n, checks, entries, grants);
     worklist::fill(&mut stack, size.n);
     walk(
         ins,
@@ -388,11 +275,9 @@ fn run(
         head,
         prev,
     );
-    store_outs(
+    round::spread(
         out,
         sure,
-        size.n,
-        size.m,
         kinds,
         checks,
         privileged,
@@ -406,7 +291,66 @@ fn run(
     );
 }
 
-// The content of the four slices for an accepted graph.
+// SURE, by the out sets and the sums that MAY left, and the sets of the nodes.
+fn store_sure(
+    denied: &mut [u64],
+    granted: &mut [u64],
+    sure: &mut [u64],
+    size: Size,
+    kinds: &[u8],
+    checks: &[u16],
+    privileged: &[u8],
+    entries: &[u8],
+    grants: &[u64],
+    froms: &[u16],
+    tos: &[u16],
+    ways: &[u8],
+    may: &[u64],
+    may_ins: &[u64],
+    may_past: &[u64],
+    head: &[u16],
+    prev: &[u16],
+)
+    requires { ⌜ Settled (graphOf size (now kinds) (now checks) (now privileged) (now entries) (now grants) (now froms) (now tos) (now ways)) (systemOf false) (now sure) (now grants) (now «may_ins») (now «may_past») (now may) ⌝ }
+    requires { ⌜ Linked (now froms) (size .n) (now head) (now prev) (size .m) ⌝ }
+    requires { ⌜ (size .n ≤ length (now «may_ins»)) × (size .n ≤ length (now «may_past»)) × (size .n ≤ length (now head)) × (size .m ≤ length (now prev)) ⌝ }
+    requires { ⌜ ResultsLong (size .n) (size .m) (length (now denied)) (length (now granted)) (length (now may)) (length (now sure)) ⌝ }
+    ensures { λ r. ⌜ Content (graphOf size (now (kinds .entry)) (now (checks .entry)) (now (privileged .entry)) (now (entries .entry)) (now (grants .entry)) (now (froms .entry)) (now (tos .entry)) (now (ways .entry))) (slices (now (denied .exit)) (now (granted .exit)) (now (may .entry)) (now (sure .exit))) ⌝ }
+{
+    let mut sure_ins = [0u64; graph::MOST_NODES];
+    let mut sure_past = [0u64; graph::MOST_NODES];
+    run(
+        &mut sure_ins,
+        &mut sure_past,
+        sure,
+        true,
+        size,
+        kinds,
+        checks,
+        privileged,
+        entries,
+        grants,
+        froms,
+        tos,
+        ways,
+        may,
+        may_past,
+        head,
+        prev,
+    );
+    store_nodes(
+        denied,
+        granted,
+        size.k,
+        size.n,
+        privileged,
+        grants,
+        may_ins,
+        &sure_ins,
+    );
+}
+
+// The content of the four slices for an accepted graph. MAY looks at no other out sets and sums: any slices of the right lengths are lent it.
 fn store(
     denied: &mut [u64],
     granted: &mut [u64],
@@ -430,8 +374,6 @@ fn store(
     let mut prev = [0u16; graph::MOST_EDGES];
     let mut may_ins = [0u64; graph::MOST_NODES];
     let mut may_past = [0u64; graph::MOST_NODES];
-    let mut sure_ins = [0u64; graph::MOST_NODES];
-    let mut sure_past = [0u64; graph::MOST_NODES];
     worklist::link(&mut head, &mut prev, froms);
     run(
         &mut may_ins,
@@ -448,15 +390,14 @@ fn store(
         tos,
         ways,
         sure,
-        &sure_past,
+        grants,
         &head,
         &prev,
     );
-    run(
-        &mut sure_ins,
-        &mut sure_past,
+    store_sure(
+        denied,
+        granted,
         sure,
-        true,
         size,
         kinds,
         checks,
@@ -467,19 +408,10 @@ fn store(
         tos,
         ways,
         may,
+        &may_ins,
         &may_past,
         &head,
         &prev,
-    );
-    store_nodes(
-        denied,
-        granted,
-        size.k,
-        size.n,
-        privileged,
-        grants,
-        &may_ins,
-        &sure_ins,
     );
 }
 

@@ -1,8 +1,8 @@
 use borrow.Author.Tests.{not-true, not-false}
-use Rattle.flow.specs.Walk.Sent.{uncounted, counted-too}
+use Rattle.sums.specs.Sums.Laws.{uncounted, counted-too}
 use borrow.Author.Needs.{needs}
-use Rattle.solver.proofs.deliver.Statement.{statement}
-use Rattle.solver.proofs.deliver.Tie as tie
+use Rattle.sums.proofs.deliver.Statement.{statement}
+use Rattle.sums.proofs.deliver.Tie as tie
 
 merge-at-requires : tie.Need-merge-at-requires
 merge-at-requires c κs = search needs

@@ -1,12 +1,12 @@
--- Both sums are written for the nodes below i.
+-- Both sums are written for the nodes below i, and the rest is as it was.
 use Prim.Native.Nat.{_-_}
 use lib.ListN.{getD}
 use native.Mathlib.Omega.{arith}
 use borrow.Author.Needs.{needs}
-use Rattle.worklist.specs.Worklist.Filled.{Filled, filled-none, filled-more, filled-all}
+use Rattle.worklist.specs.Worklist.Filled.{Filled, filled-none, filled-more, filled-all, filled-rest}
 use Rattle.flow.specs.Walk.{systemOf, startIns, startPast}
-use Rattle.solver.proofs.begin.Statement.{statement}
-use Rattle.solver.proofs.begin.Tie as tie
+use Rattle.sums.proofs.begin_all.Statement.{statement}
+use Rattle.sums.proofs.begin_all.Tie as tie
 
 abbrev Inv-loop : tie.InvT-loop
 Inv-loop ins₀ past₀ sure k n checks entries grants i₀ ins past i =
@@ -75,10 +75,14 @@ same-length-2 c = omega arith
 returns : tie.Need-returns Inv-loop μ-loop
 returns c =
     let at = c .before .loop in
-    record { ins = filled-all _ _ _ _ _ (omega arith) (at .inv .0); past = filled-all _ _ _ _ _ (omega arith) (at .inv .1) }
+    record {
+      first = record { ins = filled-all _ _ _ _ _ (omega arith) (at .inv .0); past = filled-all _ _ _ _ _ (omega arith) (at .inv .1) };
+      ins-rest = filled-rest _ _ _ _ _ (at .inv .0);
+      past-rest = filled-rest _ _ _ _ _ (at .inv .1);
+    }
 
-pub begin-spec : {M : Type 1} → statement M
-begin-spec =
+pub begin-all-spec : {M : Type 1} → statement M
+begin-all-spec =
     tie.close
     (tie.spec
     Inv-loop

@@ -39,6 +39,10 @@ merge sure a b = common a b
 unfoldable pub callNum : (privileged grants arrived : ℕ) → ℕ
 callNum privileged grants arrived = cond (eqb privileged 1) grants arrived
 
+-- all K without MAY call(n)
+abbrev pub deniedNum : (k privileged grants arrived : ℕ) → ℕ
+deniedNum k privileged grants arrived = without (all k) (callNum privileged grants arrived)
+
 -- what is past an unprivileged check: for SURE the check's permission is added, and nothing is where nothing passes
 unfoldable pub pastNum : System → (check past : ℕ) (passes : Bool) → ℕ
 pastNum may check past passes = past
@@ -48,6 +52,11 @@ unfoldable pub transNum : (kind check privileged grants arrived past : ℕ) → 
 transNum kind check privileged grants arrived past =
     cond (eqb kind 2) (cond (privilegedBy privileged check) (cond (has grants check) arrived empty) past) arrived
 
+-- call(n) is c and trans(n) is t; any: for SURE, MAY's sum of what passes the check, which says whether anything does
+pub record Leaves (y : System) (kind check privileged grants arrived past any c t : ℕ) : Type 0 where
+  pub calls : c ≡ callNum privileged grants arrived
+  pub moves : t ≡ transNum kind check privileged grants arrived (pastNum y check past (has any check))
+
 unfoldable pub edgeNum : (way called moved into : ℕ) → ℕ
 edgeNum way called moved into = cond (eqb way 0) (common called into) moved
 
@@ -55,6 +64,10 @@ edgeNum way called moved into = cond (eqb way 0) (common called into) moved
 unfoldable pub judgedNum : System → (wide v : ℕ) → ℕ
 judgedNum may wide v = v
 judgedNum sure wide v = wide
+
+-- whether a set v that arrives at a node counts at the node's check
+abbrev pub countsNum : System → (kind check wide v : ℕ) → Bool
+countsNum y kind check wide v = eqb kind 2 && has (judgedNum y wide v) check
 
 -- a node's sums before anything arrives but its entry mark
 unfoldable pub startIns : System → (k entry grants : ℕ) → ℕ
@@ -90,9 +103,9 @@ fromOf g e = getD (g .edges .froms) e 0
 abbrev pub toOf : Graph → ℕ → ℕ
 toOf g e = getD (g .edges .tos) e 0
 
--- whether a set v that arrives at a node by edge e counts at the node's check
+-- whether a set v counts that arrives at a node by edge e
 abbrev pub countsBy : (kinds checks tos : List ℕ) → System → (w : List ℕ) (e v : ℕ) → Bool
-countsBy kinds checks tos y w e v = eqb (getD kinds (getD tos e 0) 0) 2 && has (judgedNum y (getD w e 0) v) (getD checks (getD tos e 0) 0)
+countsBy kinds checks tos y w e v = countsNum y (getD kinds (getD tos e 0) 0) (getD checks (getD tos e 0) 0) (getD w e 0) v
 
 abbrev pub counts : Graph → System → (w : List ℕ) (e v : ℕ) → Bool
 counts g = countsBy (g .nodes .kinds) (g .nodes .checks) (g .edges .tos)
@@ -169,10 +182,6 @@ pub record Brings (kinds checks grants tos ways : List ℕ) (y : System) (w : Li
   pub set-sent : v ≡ edgeNum (getD ways e 0) c t (getD grants (getD tos e 0) 0)
   pub counts-so : counted ≡ countsBy kinds checks tos y w e v
 
-pub record Merged (y : System) (s : List ℕ) (b v : ℕ) (s′ : List ℕ) (r : Bool) : Type 0 where
-  pub sums : s′ ≡ into y s b v
-  pub told : r ≡ changes y s b v
-
 pub record Delivered (y : System) (s q : List ℕ) (b v : ℕ) (counted : Bool) (s′ q′ : List ℕ) (r : Bool) : Type 0 where
   pub ins : s′ ≡ into y s b v
   pub past : q′ ≡ cond counted (into y q b v) q
@@ -183,41 +192,12 @@ pub record Begun (y : System) (k n : ℕ) (checks entries grants s q : List ℕ)
   pub past : (i : ℕ) → i < n → getD q i 0 ≡ startPast y k (getD entries i 0) (getD grants i 0) (getD checks i 0)
 
 -- node n has the call set c and the trans set t
-pub record Leaves (kinds checks privileged grants : List ℕ) (y : System) (a s q : List ℕ) (n c t : ℕ) : Type 0 where
-  pub calls : c ≡ calledBy privileged grants s n
-  pub moves : t ≡ movedBy kinds checks privileged grants y a s q n
-
--- what one edge's out set needs of the slices
-pub record Carriable (kinds checks privileged grants froms tos ways a s q : List ℕ) (e : ℕ) : Type 0 where
-  pub from : e < length froms
-  pub to : e < length tos
-  pub way : e < length ways
-  pub kind : getD froms e 0 < length kinds
-  pub check : getD froms e 0 < length checks
-  pub mark : getD froms e 0 < length privileged
-  pub grant : getD froms e 0 < length grants
-  pub any : getD froms e 0 < length a
-  pub ins : getD froms e 0 < length s
-  pub past : getD froms e 0 < length q
-  pub into-grant : getD tos e 0 < length grants
-
-pub record Storable (n m out : ℕ) (kinds checks privileged grants froms tos ways a s q : List ℕ) : Type 0 where
-  pub out-long : m ≤ out
-  pub kinds-long : n ≤ length kinds
-  pub checks-long : n ≤ length checks
-  pub privileged-long : n ≤ length privileged
-  pub grants-long : n ≤ length grants
-  pub froms-long : m ≤ length froms
-  pub tos-long : m ≤ length tos
-  pub ways-long : m ≤ length ways
-  pub any-long : n ≤ length a
-  pub ins-long : n ≤ length s
-  pub past-long : n ≤ length q
-  pub starts : (e : ℕ) → e < m → getD froms e 0 < n
-  pub ends : (e : ℕ) → e < m → getD tos e 0 < n
+abbrev pub LeavesAt : (kinds checks privileged grants : List ℕ) → System → (a s q : List ℕ) (n c t : ℕ) → Type 0
+LeavesAt kinds checks privileged grants y a s q n c t =
+    Leaves y (getD kinds n 0) (getD checks n 0) (getD privileged n 0) (getD grants n 0) (getD s n 0) (getD q n 0) (getD a n 0) c t
 
 pub record NodesStored (k n : ℕ) (privileged grants may-ins sure-ins denied granted : List ℕ) : Type 0 where
-  pub denies : (i : ℕ) → i < n → getD denied i 0 ≡ without (all k) (calledBy privileged grants may-ins i)
+  pub denies : (i : ℕ) → i < n → getD denied i 0 ≡ deniedNum k (getD privileged i 0) (getD grants i 0) (getD may-ins i 0)
   pub grants-set : (i : ℕ) → i < n → getD granted i 0 ≡ calledBy privileged grants sure-ins i
 
 -- ---- how far sums have come

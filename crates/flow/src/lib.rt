@@ -1,10 +1,8 @@
 // What a node and an edge pass on, by their numbers: the rules that the solver's walk applies. Every call takes any numbers.
 use sets::Set;
 ghost use mathlib.Core.Path.{_≡_};
-ghost use mathlib.Core.Bool.{_&&_};
-ghost use lib.Dec.{eqb};
 ghost use Rattle.sets.specs.Sets.{has};
-ghost use Rattle.flow.specs.Walk.{systemOf, start, merge, callNum, pastNum, transNum, edgeNum, startIns, startPast};
+ghost use Rattle.flow.specs.Walk.{systemOf, start, merge, callNum, deniedNum, pastNum, transNum, Leaves, edgeNum, judgedNum, countsNum, startIns, startPast};
 
 // One set more arrives: MAY joins it, SURE takes the common part.
 pub fn merge(sure: bool, sum: u64, more: u64) -> u64
@@ -17,7 +15,7 @@ pub fn merge(sure: bool, sum: u64, more: u64) -> u64
 }
 
 // A sum before anything arrives.
-pub fn start(sure: bool, k: usize) -> u64
+fn start(sure: bool, k: usize) -> u64
     ensures { λ r. ⌜ r ≡ start (systemOf sure) k ⌝ }
 {
     if sure {
@@ -37,7 +35,7 @@ pub fn called(privileged: u8, grants: u64, arrived: u64) -> u64
 }
 
 // What is past an unprivileged check with the sum `past` of what passes it.
-pub fn passed(sure: bool, check: u16, past: u64, any: u64) -> u64
+fn passed(sure: bool, check: u16, past: u64, any: u64) -> u64
     ensures { λ r. ⌜ r ≡ pastNum (systemOf sure) check past (has any check) ⌝ }
 {
     if !sure {
@@ -52,7 +50,7 @@ pub fn passed(sure: bool, check: u16, past: u64, any: u64) -> u64
 }
 
 // The trans set of a node, from its sum and what is past its check.
-pub fn moved(kind: u8, check: u16, privileged: u8, grants: u64, arrived: u64, past: u64) -> u64
+fn moved(kind: u8, check: u16, privileged: u8, grants: u64, arrived: u64, past: u64) -> u64
     ensures { λ r. ⌜ r ≡ transNum kind check privileged grants arrived past ⌝ }
 {
     if kind != graph::KIND_CHECK {
@@ -79,14 +77,84 @@ pub fn carry(way: u8, called: u64, moved: u64, into: u64) -> u64
     moved
 }
 
-// Whether a set counts at the check of the node that it arrives at, judged by the set `by`.
-pub fn counts(kind: u8, check: u16, by: u64) -> bool
-    ensures { λ r. ⌜ r ≡ (eqb kind 2 && has by check) ⌝ }
+// The trans set of a node with the sums `arrived` and `past`. Most nodes are no checks, and there nothing else is looked at.
+fn beyond(
+    sure: bool,
+    kind: u8,
+    check: u16,
+    privileged: u8,
+    grants: u64,
+    arrived: u64,
+    past: u64,
+    any: u64,
+) -> u64
+    ensures { λ r. ⌜ r ≡ transNum kind check privileged grants arrived (pastNum (systemOf sure) check past (has any check)) ⌝ }
+{
+    if kind != graph::KIND_CHECK {
+        return arrived;
+    }
+    let passed = passed(sure, check, past, any);
+    moved(kind, check, privileged, grants, arrived, passed)
+}
+
+// What leaves a node: its call set and its trans set.
+pub struct Leaving {
+    pub call: u64,
+    pub trans: u64,
+}
+
+// What leaves a node with the sums `arrived` and `past`. MAY's sum of what passes the check, `any`, tells SURE whether anything does.
+pub fn leave(
+    sure: bool,
+    kind: u8,
+    check: u16,
+    privileged: u8,
+    grants: u64,
+    arrived: u64,
+    past: u64,
+    any: u64,
+) -> Leaving
+    ensures { λ r. ⌜ Leaves (systemOf sure) kind check privileged grants arrived past any (r .call) (r .trans) ⌝ }
+{
+    let call = called(privileged, grants, arrived);
+    let trans = beyond(sure, kind, check, privileged, grants, arrived, past, any);
+    Leaving {
+        call: call,
+        trans: trans,
+    }
+}
+
+// The denied set of a node with MAY's sum `arrived`.
+pub fn deny(k: usize, privileged: u8, grants: u64, arrived: u64) -> u64
+    ensures { λ r. ⌜ r ≡ deniedNum k privileged grants arrived ⌝ }
+{
+    let may = Set {
+        bits: called(privileged, grants, arrived),
+    };
+    Set::all(k).without(may).bits
+}
+
+// The set by which the set v of an edge is judged: SURE's by `wide`, MAY's out set of the same edge.
+fn judged(sure: bool, wide: u64, v: u64) -> u64
+    ensures { λ r. ⌜ r ≡ judgedNum (systemOf sure) wide v ⌝ }
+{
+    if sure {
+        return wide;
+    }
+    v
+}
+
+// Whether the set v of an edge counts at the check of the node that it arrives at.
+pub fn counts(sure: bool, kind: u8, check: u16, wide: u64, v: u64) -> bool
+    ensures { λ r. ⌜ r ≡ countsNum (systemOf sure) kind check wide v ⌝ }
 {
     if kind != graph::KIND_CHECK {
         return false;
     }
-    Set { bits: by }.has(check as usize)
+    let by = Set {
+        bits: judged(sure, wide, v),
+    };
+    by.has(check as usize)
 }
 
 pub fn first_sum(sure: bool, k: usize, entry: u8, grants: u64) -> u64

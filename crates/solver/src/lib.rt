@@ -1,69 +1,31 @@
 // The solver: for every node what is surely denied and surely granted, by the two equation systems.
+use flow::Leaving;
 use graph::Judged;
 use graph::Refusal;
 use graph::Size;
-use sets::Set;
 ghost use mathlib.Core.Path.{_≡_};
-ghost use mathlib.Core.Bool.{true, false, _&&_};
-ghost use lib.Dec.{eqb};
 ghost use Prim.Native.Nat.{ℕ, _+_, _-_, _≤_, _<_};
+ghost use mathlib.Core.Bool.{false};
 ghost use lib.ListN.{length, getD};
-ghost use Rattle.truth.specs.Truth.{Says};
-ghost use Rattle.sets.specs.Sets.{has, all, without};
 ghost use Rattle.graph.specs.Graph.{graphOf, sizeOf, Acceptable, Content, ResultsLong};
 ghost use Rattle.worklist.specs.Worklist.{Linked};
-ghost use Rattle.flow.specs.Walk.{systemOf, callNum, pastNum, transNum, judgedNum, movedBy, carriedBy, state, arrive, sendFrom, Bringable, Brings, Sendable, Merged, Delivered, Begun, Leaves, Carriable, Storable, NodesStored, Setting, Walking};
+ghost use Rattle.flow.specs.Walk.{systemOf, countsNum, state, arrive, sendFrom, Bringable, Brings, Sendable, LeavesAt, NodesStored, Setting, Walking};
 ghost use Rattle.flow.specs.Walk.Settled.{Settled};
 ghost use Rattle.solver.specs.Solve.{slices, Solves};
 
-// The set by which the set v of edge e is judged.
-fn judged(sure: bool, wide: &[u64], e: usize, v: u64) -> u64
+// Whether the set v of edge e counts at the node that it arrives at. Most nodes are no checks, and MAY judges a set by itself: there
+// `wide` is not read.
+fn counts_at(sure: bool, kind: u8, check: u16, wide: &[u64], e: usize, v: u64) -> bool
     requires { ⌜ e < length (now wide) ⌝ }
-    ensures { λ r. ⌜ r ≡ judgedNum (systemOf sure) (getD (now (wide .entry)) e 0) v ⌝ }
-{
-    if sure {
-        return wide[e];
-    }
-    v
-}
-
-// Whether the set v of edge e counts at the node that it arrives at. Most nodes are no checks, and there `wide` is not read.
-fn counts_at(sure: bool, wide: &[u64], e: usize, v: u64, kind: u8, check: u16) -> bool
-    requires { ⌜ e < length (now wide) ⌝ }
-    ensures { λ r. ⌜ r ≡ (eqb kind 2 && has (judgedNum (systemOf sure) (getD (now (wide .entry)) e 0) v) check) ⌝ }
+    ensures { λ r. ⌜ r ≡ countsNum (systemOf sure) kind check (getD (now (wide .entry)) e 0) v ⌝ }
 {
     if kind != graph::KIND_CHECK {
         return false;
     }
-    let by = judged(sure, wide, e, v);
-    flow::counts(kind, check, by)
-}
-
-// A set arrives in a sum of node b. Whether that changed the sum.
-fn merge_at(sums: &mut [u64], sure: bool, b: usize, v: u64) -> bool
-    requires { ⌜ b < length (now sums) ⌝ }
-    ensures { λ r. ⌜ Merged (systemOf sure) (now (sums .entry)) b v (now (sums .exit)) r ⌝ }
-{
-    let sum = sums[b];
-    let more = flow::merge(sure, sum, v);
-    if more == sum {
-        return false;
+    if sure {
+        return flow::counts(sure, kind, check, wide[e], v);
     }
-    sums[b] = more;
-    true
-}
-
-// A set arrives at node b, and counts there or not. Whether a sum of the node changed.
-fn deliver(ins: &mut [u64], past: &mut [u64], sure: bool, b: usize, v: u64, counted: bool) -> bool
-    requires { ⌜ (b < length (now ins)) × (b < length (now past)) ⌝ }
-    ensures { λ r. ⌜ Delivered (systemOf sure) (now (ins .entry)) (now (past .entry)) b v counted (now (ins .exit)) (now (past .exit)) r ⌝ }
-{
-    let more = merge_at(ins, sure, b, v);
-    if !counted {
-        return more;
-    }
-    let passing = merge_at(past, sure, b, v);
-    more | passing
+    flow::counts(sure, kind, check, 0, v)
 }
 
 // What an edge brings: to which node, which set, and whether it counts there.
@@ -91,7 +53,7 @@ fn bring(
 {
     let to = tos[e] as usize;
     let set = flow::carry(ways[e], call, trans, grants[to]);
-    let counted = counts_at(sure, wide, e, set, kinds[to], checks[to]);
+    let counted = counts_at(sure, kinds[to], checks[to], wide, e, set);
     Brought {
         to: to,
         set: set,
@@ -114,7 +76,7 @@ fn arrive(
     requires { ⌜ (b < length (now ins)) × (b < length (now past)) ⌝ }
     ensures { λ r. ⌜ state (now (ins .exit)) (now (past .exit)) (now (marks .exit)) (now (stack .exit)) r ≡ arrive (systemOf sure) (state (now (ins .entry)) (now (past .entry)) (now (marks .entry)) (now (stack .entry)) top) b v counted ⌝ }
 {
-    let changed = deliver(ins, past, sure, b, v, counted);
+    let changed = sums::deliver(ins, past, sure, b, v, counted);
     worklist::put(marks, stack, b, changed, top)
 }
 
@@ -152,86 +114,7 @@ fn send(
     t
 }
 
-// The sums of all nodes before anything but the entry marks arrives.
-fn begin(
-    ins: &mut [u64],
-    past: &mut [u64],
-    sure: bool,
-    k: usize,
-    n: usize,
-    checks: &[u16],
-    entries: &[u8],
-    grants: &[u64],
-)
-    requires { ⌜ (n ≤ length (now ins)) × (n ≤ length (now past)) × (n ≤ length (now checks)) × (n ≤ length (now entries)) × (n ≤ length (now grants)) ⌝ }
-    ensures { λ r. ⌜ Begun (systemOf sure) k n (now (checks .entry)) (now (entries .entry)) (now (grants .entry)) (now (ins .exit)) (now (past .exit)) ⌝ }
-{
-    let mut i = 0;
-    while i < n {
-        let entry = entries[i];
-        let own = grants[i];
-        ins[i] = flow::first_sum(sure, k, entry, own);
-        past[i] = flow::first_passing(sure, k, entry, own, checks[i]);
-        i += 1;
-    }
-}
-
-// The trans set of a check with the sums `arrived` and `past`.
-fn beyond(
-    sure: bool,
-    kind: u8,
-    check: u16,
-    privileged: u8,
-    grants: u64,
-    arrived: u64,
-    past: u64,
-    any: u64,
-) -> u64
-    ensures { λ r. ⌜ r ≡ transNum kind check privileged grants arrived (pastNum (systemOf sure) check past (has any check)) ⌝ }
-{
-    let passed = flow::passed(sure, check, past, any);
-    flow::moved(kind, check, privileged, grants, arrived, passed)
-}
-
-// The trans set of node i.
-fn trans_at(
-    sure: bool,
-    i: usize,
-    kinds: &[u8],
-    checks: &[u16],
-    privileged: &[u8],
-    grants: &[u64],
-    any: &[u64],
-    ins: &[u64],
-    past: &[u64],
-) -> u64
-    requires { ⌜ (i < length (now kinds)) × (i < length (now checks)) × (i < length (now privileged)) × (i < length (now grants)) ⌝ }
-    requires { ⌜ (i < length (now any)) × (i < length (now ins)) × (i < length (now past)) ⌝ }
-    ensures { λ r. ⌜ r ≡ movedBy (now (kinds .entry)) (now (checks .entry)) (now (privileged .entry)) (now (grants .entry)) (systemOf sure) (now (any .entry)) (now (ins .entry)) (now (past .entry)) i ⌝ }
-{
-    let kind = kinds[i];
-    let arrived = ins[i];
-    if kind != graph::KIND_CHECK {
-        return arrived;
-    }
-    beyond(
-        sure,
-        kind,
-        checks[i],
-        privileged[i],
-        grants[i],
-        arrived,
-        past[i],
-        any[i],
-    )
-}
-
-// What leaves a node: its call set and its trans set.
-struct Leaving {
-    call: u64,
-    trans: u64,
-}
-
+// What leaves node i.
 fn leave(
     sure: bool,
     i: usize,
@@ -245,88 +128,18 @@ fn leave(
 ) -> Leaving
     requires { ⌜ (i < length (now kinds)) × (i < length (now checks)) × (i < length (now privileged)) × (i < length (now grants)) ⌝ }
     requires { ⌜ (i < length (now any)) × (i < length (now ins)) × (i < length (now past)) ⌝ }
-    ensures { λ r. ⌜ Leaves (now (kinds .entry)) (now (checks .entry)) (now (privileged .entry)) (now (grants .entry)) (systemOf sure) (now (any .entry)) (now (ins .entry)) (now (past .entry)) i (r .call) (r .trans) ⌝ }
+    ensures { λ r. ⌜ LeavesAt (now (kinds .entry)) (now (checks .entry)) (now (privileged .entry)) (now (grants .entry)) (systemOf sure) (now (any .entry)) (now (ins .entry)) (now (past .entry)) i (r .call) (r .trans) ⌝ }
 {
-    let call = flow::called(privileged[i], grants[i], ins[i]);
-    let trans = trans_at(sure, i, kinds, checks, privileged, grants, any, ins, past);
-    Leaving {
-        call: call,
-        trans: trans,
-    }
-}
-
-// The out set of edge e, from the sums of the nodes.
-fn out_of(
-    sure: bool,
-    e: usize,
-    kinds: &[u8],
-    checks: &[u16],
-    privileged: &[u8],
-    grants: &[u64],
-    froms: &[u16],
-    tos: &[u16],
-    ways: &[u8],
-    any: &[u64],
-    ins: &[u64],
-    past: &[u64],
-) -> u64
-    requires { ⌜ Carriable (now kinds) (now checks) (now privileged) (now grants) (now froms) (now tos) (now ways) (now any) (now ins) (now past) e ⌝ }
-    ensures { λ r. ⌜ r ≡ carriedBy (now (kinds .entry)) (now (checks .entry)) (now (privileged .entry)) (now (grants .entry)) (now (froms .entry)) (now (tos .entry)) (now (ways .entry)) (systemOf sure) (now (any .entry)) (now (ins .entry)) (now (past .entry)) e ⌝ }
-{
-    let a = froms[e] as usize;
-    let b = tos[e] as usize;
-    let x = leave(sure, a, kinds, checks, privileged, grants, any, ins, past);
-    flow::carry(ways[e], x.call, x.trans, grants[b])
-}
-
-// The out sets of all edges, from the sums of the nodes.
-fn store_outs(
-    out: &mut [u64],
-    sure: bool,
-    n: usize,
-    m: usize,
-    kinds: &[u8],
-    checks: &[u16],
-    privileged: &[u8],
-    grants: &[u64],
-    froms: &[u16],
-    tos: &[u16],
-    ways: &[u8],
-    any: &[u64],
-    ins: &[u64],
-    past: &[u64],
-)
-    requires { ⌜ Storable n m (length (now out)) (now kinds) (now checks) (now privileged) (now grants) (now froms) (now tos) (now ways) (now any) (now ins) (now past) ⌝ }
-    ensures { λ r. ⌜ ((e : ℕ) → e < m → getD (now (out .exit)) e 0 ≡ carriedBy (now (kinds .entry)) (now (checks .entry)) (now (privileged .entry)) (now (grants .entry)) (now (froms .entry)) (now (tos .entry)) (now (ways .entry)) (systemOf sure) (now (any .entry)) (now (ins .entry)) (now (past .entry)) e) ⌝ }
-{
-    let mut e = 0;
-    while e < m {
-        out[e] = out_of(
-            sure,
-            e,
-            kinds,
-            checks,
-            privileged,
-            grants,
-            froms,
-            tos,
-            ways,
-            any,
-            ins,
-            past,
-        );
-        e += 1;
-    }
-}
-
-// The denied set of a node with MAY's sum `arrived`.
-fn deny(k: usize, privileged: u8, grants: u64, arrived: u64) -> u64
-    ensures { λ r. ⌜ r ≡ without (all k) (callNum privileged grants arrived) ⌝ }
-{
-    let may = Set {
-        bits: flow::called(privileged, grants, arrived),
-    };
-    Set::all(k).without(may).bits
+    flow::leave(
+        sure,
+        kinds[i],
+        checks[i],
+        privileged[i],
+        grants[i],
+        ins[i],
+        past[i],
+        any[i],
+    )
 }
 
 // The denied and granted sets of all nodes, from the sums of both systems.
@@ -347,7 +160,7 @@ fn store_nodes(
     while i < n {
         let mark = privileged[i];
         let own = grants[i];
-        denied[i] = deny(k, mark, own, may_ins[i]);
+        denied[i] = flow::deny(k, mark, own, may_ins[i]);
         granted[i] = flow::called(mark, own, sure_ins[i]);
         i += 1;
     }
@@ -411,8 +224,8 @@ fn walk(
 
 // One system: the sums of its nodes, and the out sets of its edges.
 fn run(
-    ins: &mut [u64],
-    past: &mut [u64],
+    ins: &mut [u64; graph::MOST_NODES],
+    past: &mut [u64; graph::MOST_NODES],
     out: &mut [u64],
     sure: bool,
     size: Size,
@@ -432,12 +245,13 @@ fn run(
     requires { ⌜ Setting (graphOf size (now kinds) (now checks) (now privileged) (now entries) (now grants) (now froms) (now tos) (now ways)) (systemOf sure) (now wide) (now any) ⌝ }
     requires { ⌜ Linked (now froms) (size .n) (now head) (now prev) (size .m) ⌝ }
     requires { ⌜ (size .m ≤ length (now wide)) × (size .n ≤ length (now any)) × (size .n ≤ length (now head)) × (size .m ≤ length (now prev)) ⌝ }
-    requires { ⌜ (size .n ≤ length (now ins)) × (size .n ≤ length (now past)) × (size .m ≤ length (now out)) ⌝ }
+    requires { ⌜ size .m ≤ length (now out) ⌝ }
+    ensures { λ r. ⌜ (length (now (ins .exit)) ≡ 1024) × (length (now (past .exit)) ≡ 1024) ⌝ }
     ensures { λ r. ⌜ Settled (graphOf size (now (kinds .entry)) (now (checks .entry)) (now (privileged .entry)) (now (entries .entry)) (now (grants .entry)) (now (froms .entry)) (now (tos .entry)) (now (ways .entry))) (systemOf sure) (now (wide .entry)) (now (any .entry)) (now (ins .exit)) (now (past .exit)) (now (out .exit)) ⌝ }
 {
     let mut marks = [worklist::MARKED; graph::MOST_NODES];
     let mut stack = [0u16; graph::MOST_NODES];
-    begin(ins, past, sure, size.k, size.n, checks, entries, grants);
+    sums::begin(ins, past, sure, size.k, size.n, checks, entries, grants);
     worklist::fill(&mut stack, size.n);
     walk(
         ins,
@@ -461,11 +275,9 @@ fn run(
         head,
         prev,
     );
-    store_outs(
+    round::spread(
         out,
         sure,
-        size.n,
-        size.m,
         kinds,
         checks,
         privileged,
@@ -479,7 +291,66 @@ fn run(
     );
 }
 
-// The content of the four slices for an accepted graph.
+// SURE, by the out sets and the sums that MAY left, and the sets of the nodes.
+fn store_sure(
+    denied: &mut [u64],
+    granted: &mut [u64],
+    sure: &mut [u64],
+    size: Size,
+    kinds: &[u8],
+    checks: &[u16],
+    privileged: &[u8],
+    entries: &[u8],
+    grants: &[u64],
+    froms: &[u16],
+    tos: &[u16],
+    ways: &[u8],
+    may: &[u64],
+    may_ins: &[u64],
+    may_past: &[u64],
+    head: &[u16],
+    prev: &[u16],
+)
+    requires { ⌜ Settled (graphOf size (now kinds) (now checks) (now privileged) (now entries) (now grants) (now froms) (now tos) (now ways)) (systemOf false) (now sure) (now grants) (now «may_ins») (now «may_past») (now may) ⌝ }
+    requires { ⌜ Linked (now froms) (size .n) (now head) (now prev) (size .m) ⌝ }
+    requires { ⌜ (size .n ≤ length (now «may_ins»)) × (size .n ≤ length (now «may_past»)) × (size .n ≤ length (now head)) × (size .m ≤ length (now prev)) ⌝ }
+    requires { ⌜ ResultsLong (size .n) (size .m) (length (now denied)) (length (now granted)) (length (now may)) (length (now sure)) ⌝ }
+    ensures { λ r. ⌜ Content (graphOf size (now (kinds .entry)) (now (checks .entry)) (now (privileged .entry)) (now (entries .entry)) (now (grants .entry)) (now (froms .entry)) (now (tos .entry)) (now (ways .entry))) (slices (now (denied .exit)) (now (granted .exit)) (now (may .entry)) (now (sure .exit))) ⌝ }
+{
+    let mut sure_ins = [0u64; graph::MOST_NODES];
+    let mut sure_past = [0u64; graph::MOST_NODES];
+    run(
+        &mut sure_ins,
+        &mut sure_past,
+        sure,
+        true,
+        size,
+        kinds,
+        checks,
+        privileged,
+        entries,
+        grants,
+        froms,
+        tos,
+        ways,
+        may,
+        may_past,
+        head,
+        prev,
+    );
+    store_nodes(
+        denied,
+        granted,
+        size.k,
+        size.n,
+        privileged,
+        grants,
+        may_ins,
+        &sure_ins,
+    );
+}
+
+// The content of the four slices for an accepted graph. MAY looks at no other out sets and sums: any slices of the right lengths are lent it.
 fn store(
     denied: &mut [u64],
     granted: &mut [u64],
@@ -503,8 +374,6 @@ fn store(
     let mut prev = [0u16; graph::MOST_EDGES];
     let mut may_ins = [0u64; graph::MOST_NODES];
     let mut may_past = [0u64; graph::MOST_NODES];
-    let mut sure_ins = [0u64; graph::MOST_NODES];
-    let mut sure_past = [0u64; graph::MOST_NODES];
     worklist::link(&mut head, &mut prev, froms);
     run(
         &mut may_ins,
@@ -521,15 +390,14 @@ fn store(
         tos,
         ways,
         sure,
-        &sure_past,
+        grants,
         &head,
         &prev,
     );
-    run(
-        &mut sure_ins,
-        &mut sure_past,
+    store_sure(
+        denied,
+        granted,
         sure,
-        true,
         size,
         kinds,
         checks,
@@ -540,19 +408,10 @@ fn store(
         tos,
         ways,
         may,
+        &may_ins,
         &may_past,
         &head,
         &prev,
-    );
-    store_nodes(
-        denied,
-        granted,
-        size.k,
-        size.n,
-        privileged,
-        grants,
-        &may_ins,
-        &sure_ins,
     );
 }
 

@@ -1,4 +1,3 @@
--- `solver::counts` meets its contract. Assumes nothing.
 use borrow.Author.Needs.{needs}
 use borrow.Author.Tests.{eq-eqb, ne-eqb}
 use Rattle.flow.proofs.counts.Statement.{statement}
@@ -7,11 +6,14 @@ use Rattle.flow.proofs.counts.Tie as tie
 returns : tie.Need-returns
 returns c = rw (ne-eqb _ 2 (c .if1 .taken))
 
+judged-requires : tie.Need-judged-requires
+judged-requires c κs = search needs
+
 has-requires : tie.Need-has-requires
 has-requires c κs = search needs
 
 returns-2 : tie.Need-returns-2
-returns-2 c = rw (eq-eqb _ 2 (c .before .if1 .left)) (c .has .ensures)
+returns-2 c = rw (eq-eqb _ 2 (c .before .before .if1 .left), ← c .before .judged .ensures) (c .has .ensures)
 
 pub counts-spec : {M : Type 1} → statement M
-counts-spec = tie.close (tie.spec returns has-requires returns-2)
+counts-spec = tie.close (tie.spec returns judged-requires has-requires returns-2)

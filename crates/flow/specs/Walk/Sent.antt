@@ -1,35 +1,15 @@
 -- What the walk's functions do with their slices, in the walk's terms: sets that arrive, nodes that go on the stack, and one turn of sending.
 use Prim.Native.Nat.{ℕ, zero, suc, _+_, _≤_, _<_}
-use mathlib.Core.Path.{_≡_, refl, sym, ap, _∙_}
+use mathlib.Core.Path.{_≡_, refl}
 use mathlib.Core.List.{List}
-use mathlib.Core.Bool.{Bool, true, false, cond, _||_, or-false}
+use mathlib.Core.Bool.{Bool, true, false, cond}
 use native.Mathlib.Omega.{arith}
 use lib.ListN.{length, getD, set}
-use lib.Seq.{set-getD}
-use borrow.Author.Tests.{eq-eqb, ne-eqb}
 use Rattle.graph.specs.Graph.{System}
 use Rattle.worklist.specs.Worklist.{fresh, Put}
-use Rattle.flow.specs.Walk.{merge, State, state, push, arrive, sendFrom, Sendable, Bringable, Brings, Merged, Delivered}
+use Rattle.flow.specs.Walk.{State, state, push, arrive, sendFrom, Sendable, Bringable, Brings, Delivered}
 
 -- ---- a set v arrives at node b
-
--- a sum that stays as it is, and one that changes; m: the sum after it
-module _ (y : System) (s : List ℕ) (b v m : ℕ) (sum : m ≡ merge y (getD s b 0) v) where
-  pub merged-same : m ≡ getD s b 0 → Merged y s b v s false
-  merged-same e = record {
-    sums = sym (ap (set s b) (sym sum ∙ e) ∙ set-getD s b 0);
-    told = rw (← sum, eq-eqb m (getD s b 0) e);
-  }
-
-  pub merged-new : (m ≡ getD s b 0 → ⊥) → Merged y s b v (set s b m) true
-  merged-new h = record { sums = rw sum; told = rw (← sum, ne-eqb m (getD s b 0) h) }
-
-module _ (y : System) (s q : List ℕ) (b v : ℕ) (counted more : Bool) (s′ : List ℕ) (f : Merged y s b v s′ more) where
-  pub uncounted : counted ≡ false → Delivered y s q b v counted s′ q more
-  uncounted e = record { ins = f .sums; past = rw e; told = rw (e, or-false) (f .told) }
-
-  pub counted-too : counted ≡ true → (passing : Bool) (q′ : List ℕ) → Merged y q b v q′ passing → Delivered y s q b v counted s′ q′ (more || passing)
-  counted-too e passing q′ g = record { ins = f .sums; past = rw e (g .sums); told = rw (e, f .told, g .told) }
 
 pushed : (s q d st : List ℕ) (top b : ℕ) (new : Bool)
     → state s q (cond new (set d b 1) d) (cond new (set st top b) st) (cond new (top + 1) top) ≡ push s q d st top b new

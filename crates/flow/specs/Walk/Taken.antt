@@ -17,7 +17,7 @@ use Rattle.graph.specs.Graph.Rules.{from-low}
 use Rattle.worklist.specs.Worklist.{last, Linked, Lists, Links}
 use Rattle.worklist.specs.Worklist.Linking.{last-upper, last-own, last-le, links-linked}
 use Rattle.worklist.specs.Worklist.Stack.{take-stacked, none-stacked, all-stacked, zeros-none}
-use Rattle.flow.specs.Walk.{callNum, pastNum, transNum, edgeNum, calledBy, movedBy, carried, fromOf, toOf, State, state, sendFrom, Sendable, Begun, Carriable, Storable, Setting, Good, Quiet, toDo, Walking, Sending}
+use Rattle.flow.specs.Walk.{callNum, pastNum, transNum, edgeNum, calledBy, movedBy, carried, fromOf, toOf, State, state, sendFrom, Sendable, Begun, Setting, Good, Quiet, toDo, Walking, Sending}
 use Rattle.flow.specs.Walk.Sums.{begun-good}
 use Rattle.flow.specs.Walk.Steps.{step}
 
@@ -189,44 +189,3 @@ walk-begins g y w a s q d st acc b ls lq ld lst ones full = record {
   stacked = all-stacked (g .size .n) d st (zeros-none d ones) lst full;
   sized = record { ins-long = ls; past-long = lq; marks-long = ld };
 }
-
--- the slices that out sets are computed from are long enough
-pub storable : (g : Graph) (out : ℕ) (a s q : List ℕ) → Acceptable g → g .size .m ≤ out → g .size .n ≤ length a → g .size .n ≤ length s → g .size .n ≤ length q
-    → Storable (g .size .n) (g .size .m) out (g .nodes .kinds) (g .nodes .checks) (g .nodes .privileged) (g .nodes .grants) (g .edges .froms) (g .edges .tos) (g .edges .ways) a s q
-storable g out a s q acc lo la ls lq =
-    let n = acc .shape .nodes in
-    let e = acc .shape .edges in
-    record {
-      out-long = lo;
-      kinds-long = omega arith;
-      checks-long = omega arith;
-      privileged-long = omega arith;
-      grants-long = omega arith;
-      froms-long = omega arith;
-      tos-long = omega arith;
-      ways-long = omega arith;
-      any-long = la;
-      ins-long = ls;
-      past-long = lq;
-      starts = λ d l. (acc .edges d l) .from-node;
-      ends = λ d l. (acc .edges d l) .to-node;
-    }
-
-pub carriable : {n m out : ℕ} (kinds checks privileged grants froms tos ways a s q : List ℕ) → Storable n m out kinds checks privileged grants froms tos ways a s q
-    → (e : ℕ) → e < m → Carriable kinds checks privileged grants froms tos ways a s q e
-carriable kinds checks privileged grants froms tos ways a s q h e l =
-    let f = h .starts e l in
-    let t = h .ends e l in
-    record {
-      from = omega arith;
-      to = omega arith;
-      way = omega arith;
-      kind = omega arith;
-      check = omega arith;
-      mark = omega arith;
-      grant = omega arith;
-      any = omega arith;
-      ins = omega arith;
-      past = omega arith;
-      into-grant = omega arith;
-    }

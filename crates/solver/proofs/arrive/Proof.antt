@@ -1,4 +1,5 @@
 use Rattle.flow.specs.Walk.Sent.{arrived}
+use Rattle.sums.specs.Sums.Laws.{delivers-low}
 use borrow.Author.Needs.{needs}
 use Rattle.solver.proofs.arrive.Statement.{statement}
 use Rattle.solver.proofs.arrive.Tie as tie
@@ -25,7 +26,8 @@ returns : tie.Need-returns
 returns c =
     let put = c .before .before .before .before in
     let delivered = put .before .before .before .before .before .before .before in
-    arrived _ _ _ _ _ _ _ _ _ _ _ _ _ _ _ (delivered .deliver .ensures) (put .put .ensures)
+    let place = delivered .before .before .before .before .before .before .before .pre in
+    arrived _ _ _ _ _ _ _ _ _ _ _ _ _ _ _ (delivers-low _ _ _ _ _ _ _ _ _ (place .0) (place .1) (delivered .deliver .ensures)) (put .put .ensures)
 
 pub arrive-spec : {M : Type 1} → statement M
 arrive-spec =

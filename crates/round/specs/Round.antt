@@ -1,0 +1,59 @@
+-- One round of the equations by slices: from the sums of the nodes to the out sets of the edges. Definitions alone: their laws are in the
+-- module below. A node has two sums: of all that arrives, in the list s, and of what arrives and passes its check, in the list q; a: for SURE,
+-- MAY's sums of what passes.
+pub mod Laws
+use Prim.Native.Nat.{ℕ, _≤_, _<_}
+use mathlib.Core.Path.{_≡_}
+use mathlib.Core.List.{List}
+use mathlib.Core.Bool.{Bool, true, false}
+use lib.ListN.{length, getD}
+use Rattle.truth.specs.Truth.{All}
+use Rattle.graph.specs.Graph.{System}
+use Rattle.flow.specs.Walk.{carriedBy}
+
+-- what one edge's out set needs of the slices
+pub record Carriable (kinds checks privileged grants froms tos ways a s q : List ℕ) (e : ℕ) : Type 0 where
+  pub from : e < length froms
+  pub to : e < length tos
+  pub way : e < length ways
+  pub kind : getD froms e 0 < length kinds
+  pub check : getD froms e 0 < length checks
+  pub mark : getD froms e 0 < length privileged
+  pub grant : getD froms e 0 < length grants
+  pub any : getD froms e 0 < length a
+  pub ins : getD froms e 0 < length s
+  pub past : getD froms e 0 < length q
+  pub into-grant : getD tos e 0 < length grants
+
+-- the slices have a place for each of n nodes and each of m edges, by their lengths
+pub record Room (n m checks privileged grants tos ways a s q out : ℕ) : Type 0 where
+  pub checks-long : n ≤ checks
+  pub privileged-long : n ≤ privileged
+  pub grants-long : n ≤ grants
+  pub any-long : n ≤ a
+  pub ins-long : n ≤ s
+  pub past-long : n ≤ q
+  pub tos-long : tos ≡ m
+  pub ways-long : m ≤ ways
+  pub out-long : m ≤ out
+
+-- all ends of edges are nodes below n, whose numbers 16 bits hold
+pub record EndsLow (n : ℕ) (froms tos : List ℕ) : Type 0 where
+  pub few : n ≤ 65535
+  pub starts : All (λ e. getD froms e 0 < n) (length froms)
+  pub ends : All (λ e. getD tos e 0 < n) (length tos)
+
+module _ (kinds checks privileged grants froms tos ways : List ℕ) (y : System) (a s q out : List ℕ) where
+  pub record CanSpread : Type 0 where
+    pub room : Room (length kinds) (length froms) (length checks) (length privileged) (length grants) (length tos) (length ways) (length a) (length s) (length q) (length out)
+    pub low : EndsLow (length kinds) froms tos
+
+  -- every edge's out set is what it carries, the rest is as it was
+  pub record SpreadAll (out′ : List ℕ) : Type 0 where
+    pub sets : (e : ℕ) → e < length froms → getD out′ e 0 ≡ carriedBy kinds checks privileged grants froms tos ways y a s q e
+    pub rest : (e : ℕ) → length froms ≤ e → getD out′ e 0 ≡ getD out e 0
+
+  -- what the slice of out sets holds after it, and whether it was stored
+  pub data Spreads : Bool → List ℕ → Type 0 where
+    spread : {out′ : List ℕ} → CanSpread → SpreadAll out′ → Spreads true out′
+    kept : (CanSpread → ⊥) → Spreads false out

@@ -18,7 +18,7 @@ ghost use lib.ListN.{length};
 ghost use Rattle.graph.specs.Graph.{nodesOf, edgesOf};
 ghost use Rattle.handover.specs.Handover.{lentOf, Room};
 ghost use Rattle.text.specs.Text.{onMeaning, textAt, readingFrom, reading, Tells};
-ghost use Rattle.text.specs.Text.Parts.{NodesRead, EdgesRead, TailRead, RestRead, Places, Parses, told};
+ghost use Rattle.text.specs.Text.Parts.{NodesRead, EdgesRead, TailRead, Parses, told};
 
 // The graph's size, or why there is none.
 pub enum Reading {
@@ -105,41 +105,6 @@ fn parse_edges(
     extent::end_text(ran, s.len(), row + counts.m, counts)
 }
 
-// The node rows, the first of which has this number, and the rest.
-fn parse_rows(
-    kinds: &mut [u8],
-    checks: &mut [u16],
-    privileged: &mut [u8],
-    entries: &mut [u8],
-    grants: &mut [u64],
-    froms: &mut [u16],
-    tos: &mut [u16],
-    ways: &mut [u8],
-    s: &[u8],
-    from: usize,
-    row: usize,
-    counts: Size,
-) -> Parsed
-    requires { ⌜ (row ≤ 4294967296) × Places counts (lentOf (now kinds) (now checks) (now privileged) (now entries) (now grants) (now froms) (now tos) (now ways)) ⌝ }
-    ensures { λ r. ⌜ RestRead (now (s .entry)) from row counts r (lentOf (now (kinds .entry)) (now (checks .entry)) (now (privileged .entry)) (now (entries .entry)) (now (grants .entry)) (now (froms .entry)) (now (tos .entry)) (now (ways .entry))) (lentOf (now (kinds .exit)) (now (checks .exit)) (now (privileged .exit)) (now (entries .exit)) (now (grants .exit)) (now (froms .exit)) (now (tos .exit)) (now (ways .exit))) ⌝ }
-{
-    let ran = read_nodes(
-        kinds,
-        checks,
-        privileged,
-        entries,
-        grants,
-        s,
-        from,
-        row,
-        counts.n,
-    );
-    match ran {
-        Ran::Stop(wrong) => Parsed::Wrong(wrong),
-        Ran::Past(p) => parse_edges(froms, tos, ways, s, p, row + counts.n, counts),
-    }
-}
-
 // The text from a position on, whose first row has this number.
 fn parse(
     kinds: &mut [u8],
@@ -157,22 +122,23 @@ fn parse(
     requires { ⌜ (row < 4294967296) × Room (lentOf (now kinds) (now checks) (now privileged) (now entries) (now grants) (now froms) (now tos) (now ways)) ⌝ }
     ensures { λ r. ⌜ Parses (lentOf (now (kinds .entry)) (now (checks .entry)) (now (privileged .entry)) (now (entries .entry)) (now (grants .entry)) (now (froms .entry)) (now (tos .entry)) (now (ways .entry))) (now (s .entry)) from row r (lentOf (now (kinds .exit)) (now (checks .exit)) (now (privileged .exit)) (now (entries .exit)) (now (grants .exit)) (now (froms .exit)) (now (tos .exit)) (now (ways .exit))) ⌝ }
 {
-    match records::read_header(s, from) {
-        Header::Wrong => Parsed::Wrong(row),
-        Header::At { counts, next } => parse_rows(
-            kinds,
-            checks,
-            privileged,
-            entries,
-            grants,
-            froms,
-            tos,
-            ways,
-            s,
-            next,
-            row + 1,
-            counts,
-        ),
+    let Header::At { counts, next } = records::read_header(s, from) else {
+        return Parsed::Wrong(row);
+    };
+    let ran = read_nodes(
+        kinds,
+        checks,
+        privileged,
+        entries,
+        grants,
+        s,
+        next,
+        row + 1,
+        counts.n,
+    );
+    match ran {
+        Ran::Stop(wrong) => Parsed::Wrong(wrong),
+        Ran::Past(p) => parse_edges(froms, tos, ways, s, p, row + 1 + counts.n, counts),
     }
 }
 

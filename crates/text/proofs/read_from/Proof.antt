@@ -17,8 +17,14 @@ module _ (c : tie.After-judge-sizes) where
 abbrev to-sizes : tie.After-enum-told3 → tie.After-judge-sizes
 to-sizes c = c .before .before
 
+abbrev to-fit : tie.After-read-sized → tie.After-enum-told3
+to-fit c = c .before .before .before .before .before .before .before .before .before
+
+abbrev to-read : tie.After-slice-known16 → tie.After-read-sized
+to-read c = c .before .before .before .before .before .before .before .before .before .before .before .before .before .before .before .before
+
 judge-sizes-requires : tie.Need-judge-sizes-requires
-judge-sizes-requires c κs = search needs
+judge-sizes-requires c κs = tt
 
 enum-told : tie.Need-enum-told
 enum-told c = search needs
@@ -42,33 +48,33 @@ returns-2 : tie.Need-returns-2
 returns-2 c = refuses (sizes-long _ _ _ _ (c .before .before .judge-sizes .ensures) (c .enum-told2 .given .1))
 
 same-length : tie.Need-same-length
-same-length c = search needs
+same-length c = to-read c .read-sized .kept .0
 
 same-length-2 : tie.Need-same-length-2
-same-length-2 c = search needs
+same-length-2 c = to-read c .read-sized .kept .1 .0
 
 same-length-3 : tie.Need-same-length-3
-same-length-3 c = search needs
+same-length-3 c = to-read c .read-sized .kept .1 .1 .0
 
 same-length-4 : tie.Need-same-length-4
-same-length-4 c = search needs
+same-length-4 c = to-read c .read-sized .kept .1 .1 .1 .0
 
 same-length-5 : tie.Need-same-length-5
-same-length-5 c = search needs
+same-length-5 c = to-read c .read-sized .kept .1 .1 .1 .1 .0
 
 same-length-6 : tie.Need-same-length-6
-same-length-6 c = search needs
+same-length-6 c = to-read c .read-sized .kept .1 .1 .1 .1 .1 .0
 
 same-length-7 : tie.Need-same-length-7
-same-length-7 c = search needs
+same-length-7 c = to-read c .read-sized .kept .1 .1 .1 .1 .1 .1 .0
 
 same-length-8 : tie.Need-same-length-8
-same-length-8 c = search needs
+same-length-8 c = to-read c .read-sized .kept .1 .1 .1 .1 .1 .1 .1 .0
 
 returns-3 : tie.Need-returns-3
 returns-3 c =
-    let read = c .before .before .before .before .before .before .before .before .before .before .before .before .before .before .before .before in
-    let t = read .before .before .before .before .before .before .before .before .before in
+    let read = to-read c in
+    let t = to-fit read in
     let b = to-sizes t in
     tells-by (sizes-fit (lent b) (start b .args .text .now) (start b .args .from) (start b .args .row) (b .judge-sizes .ensures) (t .enum-told3 .given .1) .1) (read .read-sized .ensures)
 

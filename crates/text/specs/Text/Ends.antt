@@ -15,14 +15,14 @@ use Rattle.records.specs.Records.{Got, got, no, headerAt, nodeAt, kept}
 use Rattle.records.specs.Records.Rows.{header-ranges}
 use Rattle.extent.specs.Extent.{endOf}
 use Rattle.extent.specs.Extent.Laws.{end-wrong, end-more, end-done}
-use Rattle.handover.specs.Handover.{Lent}
+use Rattle.handover.specs.Handover.{Lent, NodesWritten}
 use Rattle.extent.specs.declared.Ran.{Ran}
 use Rattle.extent.specs.declared.Ran.the-variants.{Past, Stop}
 use Rattle.extent.specs.declared.Parsed.{Parsed}
 use Rattle.extent.specs.declared.Parsed.the-variants.{Counted, Wrong}
-use Rattle.text.specs.Text.{Rows, rows, stop, onto, rowsAt, edgeRow, says, wrong, textAt, Stores}
+use Rattle.text.specs.Text.{Rows, rows, stop, onto, rowsAt, edgeRow, says, wrong, textAt, nodeColumns, Stores}
 use Rattle.text.specs.Text.Kept.{keptAll}
-use Rattle.text.specs.Text.Parts.{rowsFrom, endFrom, keptRow, tailOf, restOf, edgesAfter, RestRead, Parses, counted, faulty}
+use Rattle.text.specs.Text.Parts.{rowsFrom, endFrom, keptRow, tailOf, NodesRead, TailRead, Parses, counted, faulty}
 
 past-stop : {P : Type 0} {q j : ℕ} → Past q ≡ Stop j → P
 past-stop e = let z : _≡_ {A = ℕ} 0 1 = cc in absurd (omega arith)
@@ -79,28 +79,11 @@ kept-rows s (suc n) p i = by (nodeAt s p i) refl (λ q. kept-rows s n q (i + 1))
     by no w r = simp w
     by (got x q) w r = simp w (ap (λ l. kept x ∷ l) (r q))
 
--- ---- the parts
+-- ---- the edge rows and the end
 
-module _ (s : List ℕ) (p row : ℕ) (c : Size) where
-  pub tail-by : {r : Ran} → r ≡ endFrom (edgeRow s) row (c .m) p 0 → endOf r (length s) (row + c .m) c ≡ tailOf s p row c
-  unfolding tailOf
-  tail-by e = ap (λ (x : Ran). endOf x (length s) (row + c .m) c) e
-
-  pub rest-stop : {i : ℕ} → endFrom (keptRow s) row (c .n) p 0 ≡ Stop i → restOf s p row c ≡ Wrong i
-  unfolding restOf
-  rest-stop e = simp e
-
-  pub edges-stop : {i : ℕ} → endFrom (keptRow s) row (c .n) p 0 ≡ Stop i → edgesAfter s p row c ≡ []
-  unfolding edgesAfter
-  edges-stop e = simp e
-
-  pub rest-past : {q : ℕ} → endFrom (keptRow s) row (c .n) p 0 ≡ Past q → restOf s p row c ≡ tailOf s q (row + c .n) c
-  unfolding restOf
-  rest-past e = simp e
-
-  pub edges-past : {q : ℕ} → endFrom (keptRow s) row (c .n) p 0 ≡ Past q → edgesAfter s p row c ≡ rowsFrom (edgeRow s) (c .m) q 0
-  unfolding edgesAfter
-  edges-past e = simp e
+pub tail-by : (s : List ℕ) (p row : ℕ) (c : Size) {r : Ran} → r ≡ endFrom (edgeRow s) row (c .m) p 0 → endOf r (length s) (row + c .m) c ≡ tailOf s p row c
+unfolding tailOf
+tail-by s p row c e = ap (λ (x : Ran). endOf x (length s) (row + c .m) c) e
 
 -- ---- the text
 
@@ -130,45 +113,44 @@ module _ (s : List ℕ) (from row : ℕ) where
       unfolding textAt
       text-says g h = simp (e, f, g, h)
 
-    module _ {r : Parsed} {before after : Lent} (d : RestRead s p (row + 1) c r before after) where
-      parses-wrong : {x : ℕ} → r ≡ Wrong x → textAt s from row ≡ wrong x → Parses before s from row r after
-      parses-wrong {x} a w = subst (λ (y : Parsed). Parses before s from row y after) (sym a) (faulty w)
+    -- a node row that is wrong
+    pub parse-stop : {before after : Lent} {ran : Ran} {i : ℕ} → ran ≡ endFrom (keptRow s) (row + 1) (c .n) p 0 → ran ≡ Stop i → Parses before s from row (Wrong i) after
+    parse-stop a u =
+        let w = rows-stop (nodeAt s) (row + 1) (c .n) p 0 (sym (kept-end s (row + 1) (c .n) p 0) ∙ sym a ∙ u) in
+        faulty (text-node (w .1) ∙ ap wrong (w .2))
 
-      module _ {q : ℕ} (u : endFrom (keptRow s) (row + 1) (c .n) p 0 ≡ Past q) where
-        ns : List Node
-        ns = rowsFrom (nodeAt s) (c .n) p 0
+    -- node rows that are right, and the rest
+    module _ {before after : Lent} {ran : Ran} {q : ℕ} {r : Parsed} (h : NodesRead s p (row + 1) (c .n) ran (before .nodes) (after .nodes)) (u : ran ≡ Past q) (t : TailRead s q (row + 1 + c .n) c r (before .edges) (after .edges)) where
+      ns : List Node
+      ns = rowsFrom (nodeAt s) (c .n) p 0
 
-        es : List Edge
-        es = rowsFrom (edgeRow s) (c .m) q 0
+      es : List Edge
+      es = rowsFrom (edgeRow s) (c .m) q 0
 
-        nodes-are : (rowsAt (nodeAt s) (c .n) p 0 ≡ rows ns q) × (length ns ≡ c .n)
-        unfolding ns
-        nodes-are = rows-past (nodeAt s) (row + 1) (c .n) p 0 (sym (kept-end s (row + 1) (c .n) p 0) ∙ u)
+      nodes-are : (rowsAt (nodeAt s) (c .n) p 0 ≡ rows ns q) × (length ns ≡ c .n)
+      unfolding ns
+      nodes-are = rows-past (nodeAt s) (row + 1) (c .n) p 0 (sym (kept-end s (row + 1) (c .n) p 0) ∙ sym (h .answer) ∙ u)
 
-        so : Stores before (keptAll ns) es after
-        unfolding ns es
-        so = subst (λ l. Stores before l es after) (kept-rows s (c .n) p 0) (subst (λ l. Stores before (rowsFrom (keptRow s) (c .n) p 0) l after) (edges-past s p (row + 1) c u) (d .so))
+      so : Stores before (keptAll ns) es after
+      unfolding ns es
+      so = record { nodes = subst (λ l. NodesWritten (before .nodes) (nodeColumns l) (after .nodes)) (kept-rows s (c .n) p 0) (h .so); edges = t .so }
 
-        answers : {x : Ran} {y : Parsed} → endFrom (edgeRow s) (row + 1 + c .n) (c .m) q 0 ≡ x → endOf x (length s) (row + 1 + c .n + c .m) c ≡ y → r ≡ y
-        answers v e = d .answer ∙ rest-past s p (row + 1) c u ∙ sym (tail-by s q (row + 1 + c .n) c (sym v)) ∙ e
+      answers : {x : Ran} {y : Parsed} → endFrom (edgeRow s) (row + 1 + c .n) (c .m) q 0 ≡ x → endOf x (length s) (row + 1 + c .n + c .m) c ≡ y → r ≡ y
+      answers v w = t .answer ∙ sym (tail-by s q (row + 1 + c .n) c (sym v)) ∙ w
 
-        by-edges : (x : Ran) → endFrom (edgeRow s) (row + 1 + c .n) (c .m) q 0 ≡ x → Parses before s from row r after
-        unfolding es
-        by-edges (Stop j) v =
-            let w = rows-stop (edgeRow s) (row + 1 + c .n) (c .m) q 0 v in
-            parses-wrong (answers v (end-wrong _ _ c refl)) (text-edge (nodes-are .0) (w .1) ∙ ap wrong (w .2))
-        by-edges (Past t) v =
-            let g = rows-past (edgeRow s) (row + 1 + c .n) (c .m) q 0 v in
-            by-split (ltb t (length s))
-            (λ h. parses-wrong (answers v (end-more _ _ c refl (ltb-true t (length s) h))) (text-extra (nodes-are .0) (g .0) h))
-            (λ h. subst (λ (y : Parsed). Parses before s from row y after) (sym (answers v (end-done _ _ c refl (ltb-false t (length s) h))))
-            (counted (header-ranges s from e) (text-says (nodes-are .0) (g .0) h) (sym (nodes-are .1)) (sym (g .1)) so))
+      parses : {y : Parsed} → r ≡ y → Parses before s from row y after → Parses before s from row r after
+      parses a d = subst (λ (y : Parsed). Parses before s from row y after) (sym a) d
 
-      by-nodes : (x : Ran) → endFrom (keptRow s) (row + 1) (c .n) p 0 ≡ x → Parses before s from row r after
-      by-nodes (Stop i) u =
-          let w = rows-stop (nodeAt s) (row + 1) (c .n) p 0 (sym (kept-end s (row + 1) (c .n) p 0) ∙ u) in
-          parses-wrong (d .answer ∙ rest-stop s p (row + 1) c u) (text-node (w .1) ∙ ap wrong (w .2))
-      by-nodes (Past q) u = by-edges u (endFrom (edgeRow s) (row + 1 + c .n) (c .m) q 0) refl
+      by-edges : (x : Ran) → endFrom (edgeRow s) (row + 1 + c .n) (c .m) q 0 ≡ x → Parses before s from row r after
+      unfolding es
+      by-edges (Stop j) v =
+          let w = rows-stop (edgeRow s) (row + 1 + c .n) (c .m) q 0 v in
+          parses (answers v (end-wrong _ _ c refl)) (faulty (text-edge (nodes-are .0) (w .1) ∙ ap wrong (w .2)))
+      by-edges (Past x) v =
+          let g = rows-past (edgeRow s) (row + 1 + c .n) (c .m) q 0 v in
+          by-split (ltb x (length s))
+          (λ l. parses (answers v (end-more _ _ c refl (ltb-true x (length s) l))) (faulty (text-extra (nodes-are .0) (g .0) l)))
+          (λ l. parses (answers v (end-done _ _ c refl (ltb-false x (length s) l))) (counted (header-ranges s from e) (text-says (nodes-are .0) (g .0) l) (sym (nodes-are .1)) (sym (g .1)) so))
 
-      pub parse-rest : Parses before s from row r after
-      parse-rest = by-nodes (endFrom (keptRow s) (row + 1) (c .n) p 0) refl
+      pub parse-past : Parses before s from row r after
+      parse-past = by-edges (endFrom (edgeRow s) (row + 1 + c .n) (c .m) q 0) refl

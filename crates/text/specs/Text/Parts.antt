@@ -12,7 +12,7 @@ use Rattle.records.specs.declared.Node.{Node}
 use Rattle.records.specs.declared.Edge.{Edge}
 use Rattle.graph.specs.declared.Size.{Size}
 use Rattle.records.specs.Records.{Got, got, no, onGot, nodeAt, kept}
-use Rattle.extent.specs.Extent.{onRan, endOf}
+use Rattle.extent.specs.Extent.{endOf}
 use Rattle.extent.specs.declared.Ran.{Ran}
 use Rattle.extent.specs.declared.Ran.the-variants.{Past, Stop}
 use Rattle.text.specs.declared.Reading.{Reading}
@@ -57,18 +57,6 @@ tailOf s p row c = endOf (endFrom (edgeRow s) row (c .m) p 0) (length s) (row + 
 pub record TailRead (s : List ℕ) (p row : ℕ) (c : Size) (r : Parsed) (before after : PerEdge (List ℕ)) : Type 0 where
   pub answer : r ≡ tailOf s p row c
   pub so : EdgesWritten before (edgeColumns (rowsFrom (edgeRow s) (c .m) p 0)) after
-
--- the node rows, the first of which has this number, and the rest
-unfoldable pub restOf : List ℕ → (p row : ℕ) → Size → Parsed
-restOf s p row c = onRan (endFrom (keptRow s) row (c .n) p 0) (λ i. Wrong i) (λ q. tailOf s q (row + c .n) c)
-
--- the edges of the rows that are right
-unfoldable pub edgesAfter : List ℕ → (p row : ℕ) → Size → List Edge
-edgesAfter s p row c = onRan (endFrom (keptRow s) row (c .n) p 0) (λ i. []) (λ q. rowsFrom (edgeRow s) (c .m) q 0)
-
-pub record RestRead (s : List ℕ) (p row : ℕ) (c : Size) (r : Parsed) (before after : Lent) : Type 0 where
-  pub answer : r ≡ restOf s p row c
-  pub so : Stores before (rowsFrom (keptRow s) (c .n) p 0) (edgesAfter s p row c) after
 
 -- places for the nodes and edges that are counted
 pub record Places (c : Size) (x : Lent) : Type 0 where

@@ -5,8 +5,9 @@ use mathlib.Core.Bool.{cond}
 use lib.Dec.{ltb}
 use Rattle.graph.specs.Graph.{PerNode, PerEdge, NodesLong, EdgesLong}
 use Rattle.graph.specs.declared.Size.{Size}
-use Rattle.extent.specs.declared.Sizes.{Sizes}
-use Rattle.extent.specs.declared.Sizes.the-variants.{Fit, NoRoom, TooLong}
+use Rattle.graph.specs.declared.Refusal.the-variants as why
+use Rattle.graph.specs.declared.Judged.{Judged}
+use Rattle.graph.specs.declared.Judged.the-variants.{Accepted, Refused}
 use Rattle.extent.specs.declared.Ran.{Ran}
 use Rattle.extent.specs.declared.Ran.the-variants.{Past, Stop}
 use Rattle.extent.specs.declared.Parsed.{Parsed}
@@ -26,11 +27,11 @@ Ample x y = NodesLong mostNodes x × EdgesLong mostEdges y
 abbrev pub mostBytes : ℕ
 mostBytes = 65536
 
--- The slices' lengths come first.
-pub data SizesSo (x : PerNode ℕ) (y : PerEdge ℕ) (text : ℕ) : Sizes → Type 0 where
-  cramped : (Ample x y → ⊥) → SizesSo x y text NoRoom
-  long : Ample x y → mostBytes < text → SizesSo x y text TooLong
-  fit : Ample x y → text ≤ mostBytes → SizesSo x y text Fit
+-- 1 for the slices' lengths, then 12 for the text's.
+pub data SizesSo (x : PerNode ℕ) (y : PerEdge ℕ) (text : ℕ) : Judged → Type 0 where
+  cramped : (Ample x y → ⊥) → SizesSo x y text (Refused why.Shape)
+  long : Ample x y → mostBytes < text → SizesSo x y text (Refused why.TooLong)
+  fit : Ample x y → text ≤ mostBytes → SizesSo x y text Accepted
 
 abbrev pub onRan : {Y : Type 0} → Ran → (ℕ → Y) → (ℕ → Y) → Y
 onRan (Stop row) f g = f row

@@ -1,7 +1,9 @@
 // How far slices and a text reach: whether slices have room for every graph, whether a text is short enough to be read, and whether it ends where its
 // rows do.
+use graph::Judged;
 use graph::MOST_EDGES;
 use graph::MOST_NODES;
+use graph::Refusal;
 use graph::Size;
 ghost use mathlib.Core.Path.{_≡_};
 ghost use Rattle.truth.specs.Truth.{Says};
@@ -30,14 +32,7 @@ pub fn has_room(
     rules::edges_long(MOST_EDGES, froms, tos, ways)
 }
 
-// Whether the slices and the text have the lengths that they may have.
-pub enum Sizes {
-    Fit,
-    NoRoom,
-    TooLong,
-}
-
-// Judges the lengths of the slices first, then the text's.
+// Refuses slices without room, and then a text that is too long.
 pub fn judge_sizes(
     kinds: usize,
     checks: usize,
@@ -48,16 +43,16 @@ pub fn judge_sizes(
     tos: usize,
     ways: usize,
     text: usize,
-) -> Sizes
+) -> Judged
     ensures { λ r. ⌜ SizesSo (nodesOf kinds checks privileged entries grants) (edgesOf froms tos ways) text r ⌝ }
 {
     if !has_room(kinds, checks, privileged, entries, grants, froms, tos, ways) {
-        return Sizes::NoRoom;
+        return Judged::Refused(Refusal::Shape);
     }
     if MOST_BYTES < text {
-        return Sizes::TooLong;
+        return Judged::Refused(Refusal::TooLong);
     }
-    Sizes::Fit
+    Judged::Accepted
 }
 
 // Where rows end: at the position past the last of them, or at the first that is wrong, by its number.

@@ -1,7 +1,6 @@
 // Reads the graph of a text into the slices that a caller lends.
 use extent::Parsed;
 use extent::Ran;
-use extent::Sizes;
 use graph::Judged;
 use graph::MOST_EDGES;
 use graph::MOST_NODES;
@@ -125,6 +124,7 @@ fn parse(
     let Header::At { counts, next } = records::read_header(s, from) else {
         return Parsed::Wrong(row);
     };
+    let first = row + 1;
     let ran = read_nodes(
         kinds,
         checks,
@@ -133,12 +133,12 @@ fn parse(
         grants,
         s,
         next,
-        row + 1,
+        first,
         counts.n,
     );
     match ran {
         Ran::Stop(wrong) => Parsed::Wrong(wrong),
-        Ran::Past(p) => parse_edges(froms, tos, ways, s, p, row + 1 + counts.n, counts),
+        Ran::Past(p) => parse_edges(froms, tos, ways, s, p, first + counts.n, counts),
     }
 }
 
@@ -234,7 +234,7 @@ pub fn read_from(
 ) -> Reading
     ensures { λ r. ⌜ Tells (readingFrom (lentOf (now (kinds .entry)) (now (checks .entry)) (now (privileged .entry)) (now (entries .entry)) (now (grants .entry)) (now (froms .entry)) (now (tos .entry)) (now (ways .entry))) (now (text .entry)) from row) (lentOf (now (kinds .entry)) (now (checks .entry)) (now (privileged .entry)) (now (entries .entry)) (now (grants .entry)) (now (froms .entry)) (now (tos .entry)) (now (ways .entry))) r (lentOf (now (kinds .exit)) (now (checks .exit)) (now (privileged .exit)) (now (entries .exit)) (now (grants .exit)) (now (froms .exit)) (now (tos .exit)) (now (ways .exit))) ⌝ }
 {
-    let sizes = extent::judge_sizes(
+    let judged = extent::judge_sizes(
         kinds.len(),
         checks.len(),
         privileged.len(),
@@ -245,23 +245,22 @@ pub fn read_from(
         ways.len(),
         text.len(),
     );
-    match sizes {
-        Sizes::NoRoom => Reading::Refused(Refusal::Shape),
-        Sizes::TooLong => Reading::Refused(Refusal::TooLong),
-        Sizes::Fit => read_sized(
-            kinds,
-            checks,
-            privileged,
-            entries,
-            grants,
-            froms,
-            tos,
-            ways,
-            text,
-            from,
-            row as usize,
-        ),
+    if let Judged::Refused(why) = judged {
+        return Reading::Refused(why);
     }
+    read_sized(
+        kinds,
+        checks,
+        privileged,
+        entries,
+        grants,
+        froms,
+        tos,
+        ways,
+        text,
+        from,
+        row as usize,
+    )
 }
 
 // Reads a whole text so.

@@ -50,8 +50,8 @@ enum-told c = search needs
 returns : tie.Need-returns
 returns c = parse-none _ _ _ (header-told _ (sym (c .before .before .read-header .ensures) ∙ c .enum-told .given .1))
 
-add-read-nodes : tie.Need-add-read-nodes
-add-read-nodes c = omega (arith, start (c .before .before .before .before .before .before) .pre .0)
+add-first : tie.Need-add-first
+add-first c = omega (arith, start (c .before) .pre .0)
 
 read-nodes-requires : tie.Need-read-nodes-requires
 read-nodes-requires c κs =
@@ -68,10 +68,7 @@ enum-known-ran-2 : tie.Need-enum-known-ran-2
 enum-known-ran-2 c = search needs
 
 add-parse-edges : tie.Need-add-parse-edges
-add-parse-edges c = omega (arith, start (to-counts (past-to-read (c .before .before .before .before))) .pre .0)
-
-add-parse-edges-2 : tie.Need-add-parse-edges-2
-add-parse-edges-2 c =
+add-parse-edges c =
     let counted = to-counts (past-to-read (c .before .before .before .before .before)) in
     omega (arith, start counted .pre .0, ranges counted .n-high)
 
@@ -142,12 +139,11 @@ parse-spec =
     enum-known-counts
     enum-told
     returns
-    add-read-nodes
+    add-first
     read-nodes-requires
     enum-known-ran
     enum-known-ran-2
     add-parse-edges
-    add-parse-edges-2
     parse-edges-requires
     same-length
     same-length-2

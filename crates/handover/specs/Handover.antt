@@ -10,6 +10,7 @@ use lib.Seq.{sets}
 use lib.Dec.{eqb}
 use Rattle.graph.specs.Graph.{Graph, PerNode, PerEdge, nodesOf, edgesOf, mapNode, mapEdge, everyNode, everyEdge, NodesLong, EdgesLong}
 use Rattle.graph.specs.Judge.{Judges}
+use Rattle.extent.specs.Extent.{mostNodes, mostEdges}
 use Rattle.graph.specs.declared.Size.{Size}
 use Rattle.graph.specs.declared.Refusal.{Refusal}
 use Rattle.graph.specs.declared.Refusal.the-variants as why
@@ -24,13 +25,7 @@ pub record Lent : Type 0 where
 abbrev pub lentOf : (kinds checks privileged entries grants froms tos ways : List ℕ) → Lent
 lentOf kinds checks privileged entries grants froms tos ways = record { nodes = nodesOf kinds checks privileged entries grants; edges = edgesOf froms tos ways }
 
--- 1,024 places for what is a node's, 4,096 for what is an edge's: room for every graph.
-abbrev pub mostNodes : ℕ
-mostNodes = 1024
-
-abbrev pub mostEdges : ℕ
-mostEdges = 4096
-
+-- Room for every graph.
 pub record Room (x : Lent) : Type 0 where
   pub nodes : NodesLong mostNodes (mapNode length (x .nodes))
   pub edges : EdgesLong mostEdges (mapEdge length (x .edges))

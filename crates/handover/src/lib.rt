@@ -1,15 +1,12 @@
 // Hands a graph over: judges what the first places of slices hold, and copies it to the slices that a caller lends where it is accepted.
 use graph;
 use graph::Judged;
-use graph::MOST_EDGES;
-use graph::MOST_NODES;
 use graph::Refusal;
 use graph::Size;
 ghost use mathlib.Core.Path.{_≡_};
 ghost use Prim.Native.Nat.{_≤_};
 ghost use lib.ListN.{length, take};
 ghost use lib.Seq.{sets};
-ghost use Rattle.truth.specs.Truth.{Says};
 ghost use Rattle.graph.specs.Graph.{nodesOf, edgesOf, mapNode, mapEdge, NodesLong, EdgesLong, Ranges};
 ghost use Rattle.graph.specs.Judge.{Judges};
 ghost use Rattle.handover.specs.Handover.{lentOf, Room, heldGraph, NodesWritten, EdgesWritten, HeldJudged, HandsOver};
@@ -121,25 +118,6 @@ fn judge(
     )
 }
 
-// Whether slices of these lengths have room for every graph, and no more.
-pub fn has_room(
-    kinds: usize,
-    checks: usize,
-    privileged: usize,
-    entries: usize,
-    grants: usize,
-    froms: usize,
-    tos: usize,
-    ways: usize,
-) -> bool
-    ensures { λ r. ⌜ Says (NodesLong 1024 (nodesOf kinds checks privileged entries grants) × EdgesLong 4096 (edgesOf froms tos ways)) r ⌝ }
-{
-    if !rules::nodes_long(MOST_NODES, kinds, checks, privileged, entries, grants) {
-        return false;
-    }
-    rules::edges_long(MOST_EDGES, froms, tos, ways)
-}
-
 // Judges what the first places of slices hold.
 fn judge_held(
     size: Size,
@@ -154,7 +132,7 @@ fn judge_held(
 ) -> Judged
     ensures { λ r. ⌜ HeldJudged size (lentOf (now (ks .entry)) (now (cs .entry)) (now (ps .entry)) (now (es .entry)) (now (gs .entry)) (now (fs .entry)) (now (ts .entry)) (now (ws .entry))) r ⌝ }
 {
-    if !has_room(
+    if !extent::has_room(
         ks.len(),
         cs.len(),
         ps.len(),
@@ -195,7 +173,7 @@ pub fn hand_over(
 ) -> Judged
     ensures { λ r. ⌜ HandsOver size (lentOf (now (ks .entry)) (now (cs .entry)) (now (ps .entry)) (now (es .entry)) (now (gs .entry)) (now (fs .entry)) (now (ts .entry)) (now (ws .entry))) (lentOf (now (kinds .entry)) (now (checks .entry)) (now (privileged .entry)) (now (entries .entry)) (now (grants .entry)) (now (froms .entry)) (now (tos .entry)) (now (ways .entry))) r (lentOf (now (kinds .exit)) (now (checks .exit)) (now (privileged .exit)) (now (entries .exit)) (now (grants .exit)) (now (froms .exit)) (now (tos .exit)) (now (ways .exit))) ⌝ }
 {
-    if !has_room(
+    if !extent::has_room(
         kinds.len(),
         checks.len(),
         privileged.len(),

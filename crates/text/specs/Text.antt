@@ -20,6 +20,7 @@ use Rattle.graph.specs.declared.Judged.the-variants as judged
 use Rattle.records.specs.declared.Node.{Node}
 use Rattle.records.specs.declared.Edge.{Edge}
 use Rattle.graph.specs.declared.Size.{Size}
+use Rattle.extent.specs.Extent.{mostBytes}
 use Rattle.handover.specs.Handover.{Lent, roomy, NodesWritten, EdgesWritten}
 use Rattle.text.specs.declared.Reading.{Reading}
 use Rattle.text.specs.declared.Reading.the-variants as answer
@@ -90,9 +91,6 @@ onMeaning (says k ns es) = onJudged (judge (graphFrom k ns es)) k ns es
 
 -- 12 for a text above 65,536 bytes, 11 for its rows, then 2 to 4 as the graph is judged. The text is read from a position on, and its first row
 -- there has this number.
-abbrev pub mostBytes : ℕ
-mostBytes = 65536
-
 unfoldable pub outcomeFrom : List ℕ → (from row : ℕ) → Outcome
 outcomeFrom s from row = cond (ltb mostBytes (length s)) (refused (12 at 0)) (onMeaning (textAt s from row))
 

@@ -1,4 +1,6 @@
 // Reads the graph of a text into the slices that a caller lends.
+use extent::Parsed;
+use extent::Ran;
 use graph::Judged;
 use graph::MOST_EDGES;
 use graph::MOST_NODES;
@@ -10,15 +12,12 @@ use records::Header;
 use records::NodeRow;
 use shortcuts;
 ghost use mathlib.Core.Path.{_≡_};
-ghost use Prim.Native.Nat.{ℕ, _<_, _≤_};
+ghost use Prim.Native.Nat.{_<_, _≤_};
 ghost use lib.ListN.{length};
 ghost use Rattle.graph.specs.Graph.{nodesOf, edgesOf};
 ghost use Rattle.handover.specs.Handover.{lentOf, Room};
 ghost use Rattle.text.specs.Text.{onMeaning, textAt, readingFrom, reading, Tells};
-ghost use Rattle.text.specs.Text.Parts.{NodesRead, EdgesRead, tailFrom, TailRead, RestRead, Places, Parses, told, SizesSo};
-
-// A text has at most so many bytes.
-pub const MOST_BYTES: usize = 65536;
+ghost use Rattle.text.specs.Text.Parts.{NodesRead, EdgesRead, TailRead, Parses, told};
 
 // The graph's size, or why there is none.
 pub enum Reading {
@@ -26,13 +25,7 @@ pub enum Reading {
     Refused(Refusal),
 }
 
-// Where rows end: past the last of them, or at the first that is wrong, by its number.
-enum Ran {
-    Past(usize),
-    Stop(usize),
-}
-
-// Reads n node rows and stores what they say.
+// Reads n node rows, the first of which has this number, and stores what they say.
 fn read_nodes(
     kinds: &mut [u8],
     checks: &mut [u16],
@@ -41,16 +34,18 @@ fn read_nodes(
     grants: &mut [u64],
     s: &[u8],
     from: usize,
+    row: usize,
     n: usize,
 ) -> Ran
+    requires { ⌜ row ≤ 4294967296 ⌝ }
     requires { ⌜ (n ≤ length (now kinds)) × (n ≤ length (now checks)) × (n ≤ length (now privileged)) × (n ≤ length (now entries)) × (n ≤ length (now grants)) ⌝ }
-    ensures { λ r. ⌜ NodesRead (now (s .entry)) from n r (nodesOf (now (kinds .entry)) (now (checks .entry)) (now (privileged .entry)) (now (entries .entry)) (now (grants .entry))) (nodesOf (now (kinds .exit)) (now (checks .exit)) (now (privileged .exit)) (now (entries .exit)) (now (grants .exit))) ⌝ }
+    ensures { λ r. ⌜ NodesRead (now (s .entry)) from row n r (nodesOf (now (kinds .entry)) (now (checks .entry)) (now (privileged .entry)) (now (entries .entry)) (now (grants .entry))) (nodesOf (now (kinds .exit)) (now (checks .exit)) (now (privileged .exit)) (now (entries .exit)) (now (grants .exit))) ⌝ }
 {
     let mut p = from;
     let mut i: usize = 0;
     while i < n {
         let NodeRow::At { node, next } = shortcuts::read_node(s, p, i) else {
-            return Ran::Stop(i);
+            return Ran::Stop(row + i);
         };
         kinds[i] = node.kind;
         checks[i] = node.check;
@@ -63,23 +58,25 @@ fn read_nodes(
     Ran::Past(p)
 }
 
-// Reads m edge rows and stores what they say.
+// Reads m edge rows, the first of which has this number, and stores what they say.
 fn read_edges(
     froms: &mut [u16],
     tos: &mut [u16],
     ways: &mut [u8],
     s: &[u8],
     from: usize,
+    row: usize,
     m: usize,
 ) -> Ran
+    requires { ⌜ row ≤ 4294968320 ⌝ }
     requires { ⌜ (m ≤ length (now froms)) × (m ≤ length (now tos)) × (m ≤ length (now ways)) ⌝ }
-    ensures { λ r. ⌜ EdgesRead (now (s .entry)) from m r (edgesOf (now (froms .entry)) (now (tos .entry)) (now (ways .entry))) (edgesOf (now (froms .exit)) (now (tos .exit)) (now (ways .exit))) ⌝ }
+    ensures { λ r. ⌜ EdgesRead (now (s .entry)) from row m r (edgesOf (now (froms .entry)) (now (tos .entry)) (now (ways .entry))) (edgesOf (now (froms .exit)) (now (tos .exit)) (now (ways .exit))) ⌝ }
 {
     let mut p = from;
     let mut i: usize = 0;
     while i < m {
         let EdgeRow::At { edge, next } = shortcuts::read_edge(s, p) else {
-            return Ran::Stop(i);
+            return Ran::Stop(row + i);
         };
         froms[i] = edge.from;
         tos[i] = edge.to;
@@ -88,28 +85,6 @@ fn read_edges(
         i += 1;
     }
     Ran::Past(p)
-}
-
-// What a text says of its counts, or its first wrong, missing or extra row.
-enum Parsed {
-    Counted(Size),
-    Wrong(usize),
-}
-
-// The answer where the edge rows, the first of which has this number, ended so.
-fn end_text(ran: Ran, len: usize, row: usize, counts: Size) -> Parsed
-    requires { ⌜ (row ≤ 4294968320) × (counts .m ≤ 4096) × ((j : ℕ) → ran ≡ Ran.Stop j → j < counts .m) ⌝ }
-    ensures { λ r. ⌜ r ≡ tailFrom ran len row counts ⌝ }
-{
-    match ran {
-        Ran::Stop(j) => Parsed::Wrong(row + j),
-        Ran::Past(q) => {
-            if q < len {
-                return Parsed::Wrong(row + counts.m);
-            }
-            Parsed::Counted(counts)
-        }
-    }
 }
 
 // The edge rows, the first of which has this number, and the text's end.
@@ -125,42 +100,8 @@ fn parse_edges(
     requires { ⌜ ((row ≤ 4294968320) × (counts .m ≤ 4096)) × (counts .m ≤ length (now froms)) × (counts .m ≤ length (now tos)) × (counts .m ≤ length (now ways)) ⌝ }
     ensures { λ r. ⌜ TailRead (now (s .entry)) from row counts r (edgesOf (now (froms .entry)) (now (tos .entry)) (now (ways .entry))) (edgesOf (now (froms .exit)) (now (tos .exit)) (now (ways .exit))) ⌝ }
 {
-    let ran = read_edges(froms, tos, ways, s, from, counts.m);
-    end_text(ran, s.len(), row, counts)
-}
-
-// The node rows, the first of which has this number, and the rest.
-fn parse_rows(
-    kinds: &mut [u8],
-    checks: &mut [u16],
-    privileged: &mut [u8],
-    entries: &mut [u8],
-    grants: &mut [u64],
-    froms: &mut [u16],
-    tos: &mut [u16],
-    ways: &mut [u8],
-    s: &[u8],
-    from: usize,
-    row: usize,
-    counts: Size,
-) -> Parsed
-    requires { ⌜ (row ≤ 4294967296) × Places counts (lentOf (now kinds) (now checks) (now privileged) (now entries) (now grants) (now froms) (now tos) (now ways)) ⌝ }
-    ensures { λ r. ⌜ RestRead (now (s .entry)) from row counts r (lentOf (now (kinds .entry)) (now (checks .entry)) (now (privileged .entry)) (now (entries .entry)) (now (grants .entry)) (now (froms .entry)) (now (tos .entry)) (now (ways .entry))) (lentOf (now (kinds .exit)) (now (checks .exit)) (now (privileged .exit)) (now (entries .exit)) (now (grants .exit)) (now (froms .exit)) (now (tos .exit)) (now (ways .exit))) ⌝ }
-{
-    let ran = read_nodes(
-        kinds,
-        checks,
-        privileged,
-        entries,
-        grants,
-        s,
-        from,
-        counts.n,
-    );
-    match ran {
-        Ran::Stop(i) => Parsed::Wrong(row + i),
-        Ran::Past(p) => parse_edges(froms, tos, ways, s, p, row + counts.n, counts),
-    }
+    let ran = read_edges(froms, tos, ways, s, from, row, counts.m);
+    extent::end_text(ran, s.len(), row + counts.m, counts)
 }
 
 // The text from a position on, whose first row has this number.
@@ -180,22 +121,24 @@ fn parse(
     requires { ⌜ (row < 4294967296) × Room (lentOf (now kinds) (now checks) (now privileged) (now entries) (now grants) (now froms) (now tos) (now ways)) ⌝ }
     ensures { λ r. ⌜ Parses (lentOf (now (kinds .entry)) (now (checks .entry)) (now (privileged .entry)) (now (entries .entry)) (now (grants .entry)) (now (froms .entry)) (now (tos .entry)) (now (ways .entry))) (now (s .entry)) from row r (lentOf (now (kinds .exit)) (now (checks .exit)) (now (privileged .exit)) (now (entries .exit)) (now (grants .exit)) (now (froms .exit)) (now (tos .exit)) (now (ways .exit))) ⌝ }
 {
-    match records::read_header(s, from) {
-        Header::Wrong => Parsed::Wrong(row),
-        Header::At { counts, next } => parse_rows(
-            kinds,
-            checks,
-            privileged,
-            entries,
-            grants,
-            froms,
-            tos,
-            ways,
-            s,
-            next,
-            row + 1,
-            counts,
-        ),
+    let Header::At { counts, next } = records::read_header(s, from) else {
+        return Parsed::Wrong(row);
+    };
+    let first = row + 1;
+    let ran = read_nodes(
+        kinds,
+        checks,
+        privileged,
+        entries,
+        grants,
+        s,
+        next,
+        first,
+        counts.n,
+    );
+    match ran {
+        Ran::Stop(wrong) => Parsed::Wrong(wrong),
+        Ran::Past(p) => parse_edges(froms, tos, ways, s, p, first + counts.n, counts),
     }
 }
 
@@ -274,35 +217,6 @@ fn read_sized(
     }
 }
 
-// Whether the slices and the text have the lengths that they may have.
-enum Sizes {
-    Fit,
-    NoRoom,
-    TooLong,
-}
-
-fn judge_sizes(
-    kinds: usize,
-    checks: usize,
-    privileged: usize,
-    entries: usize,
-    grants: usize,
-    froms: usize,
-    tos: usize,
-    ways: usize,
-    text: usize,
-) -> Sizes
-    ensures { λ r. ⌜ SizesSo (nodesOf kinds checks privileged entries grants) (edgesOf froms tos ways) text r ⌝ }
-{
-    if !handover::has_room(kinds, checks, privileged, entries, grants, froms, tos, ways) {
-        return Sizes::NoRoom;
-    }
-    if MOST_BYTES < text {
-        return Sizes::TooLong;
-    }
-    Sizes::Fit
-}
-
 // Reads the text from a position on, whose first row has this number, into slices of 1,024 and 4,096 places: stores the graph in their first places,
 // or refuses and stores nothing.
 pub fn read_from(
@@ -320,7 +234,7 @@ pub fn read_from(
 ) -> Reading
     ensures { λ r. ⌜ Tells (readingFrom (lentOf (now (kinds .entry)) (now (checks .entry)) (now (privileged .entry)) (now (entries .entry)) (now (grants .entry)) (now (froms .entry)) (now (tos .entry)) (now (ways .entry))) (now (text .entry)) from row) (lentOf (now (kinds .entry)) (now (checks .entry)) (now (privileged .entry)) (now (entries .entry)) (now (grants .entry)) (now (froms .entry)) (now (tos .entry)) (now (ways .entry))) r (lentOf (now (kinds .exit)) (now (checks .exit)) (now (privileged .exit)) (now (entries .exit)) (now (grants .exit)) (now (froms .exit)) (now (tos .exit)) (now (ways .exit))) ⌝ }
 {
-    let sizes = judge_sizes(
+    let judged = extent::judge_sizes(
         kinds.len(),
         checks.len(),
         privileged.len(),
@@ -331,23 +245,22 @@ pub fn read_from(
         ways.len(),
         text.len(),
     );
-    match sizes {
-        Sizes::NoRoom => Reading::Refused(Refusal::Shape),
-        Sizes::TooLong => Reading::Refused(Refusal::TooLong),
-        Sizes::Fit => read_sized(
-            kinds,
-            checks,
-            privileged,
-            entries,
-            grants,
-            froms,
-            tos,
-            ways,
-            text,
-            from,
-            row as usize,
-        ),
+    if let Judged::Refused(why) = judged {
+        return Reading::Refused(why);
     }
+    read_sized(
+        kinds,
+        checks,
+        privileged,
+        entries,
+        grants,
+        froms,
+        tos,
+        ways,
+        text,
+        from,
+        row as usize,
+    )
 }
 
 // Reads a whole text so.

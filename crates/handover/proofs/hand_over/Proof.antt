@@ -30,14 +30,17 @@ to-accepted c = c .before .before .before .before .before .before
 abbrev to-nodes : tie.After-store-edges → tie.After-store-nodes
 to-nodes c = c .before .before .before .before .before .before .before .before .before .before .before .before .before .before
 
+abbrev to-edges : tie.After-slice-known16 → tie.After-store-edges
+to-edges c = c .before .before .before .before .before .before
+
 has-room-requires : tie.Need-has-room-requires
-has-room-requires c κs = search needs
+has-room-requires c κs = tt
 
 returns : tie.Need-returns
 returns c = cramped (λ r. says-false (c .before .has-room .ensures) (not-true _ (c .if1 .taken)) (r .nodes, r .edges))
 
 judge-held-requires : tie.Need-judge-held-requires
-judge-held-requires c κs = search needs
+judge-held-requires c κs = tt
 
 enum-known-judged : tie.Need-enum-known-judged
 enum-known-judged c = search needs
@@ -65,32 +68,32 @@ store-edges-requires c κs =
     ((f .ranges .m-high, room j .edges), f .room .edges)
 
 same-length : tie.Need-same-length
-same-length c = search needs
+same-length c = to-nodes (to-edges c) .store-nodes .kept .0
 
 same-length-2 : tie.Need-same-length-2
-same-length-2 c = search needs
+same-length-2 c = to-nodes (to-edges c) .store-nodes .kept .1 .0
 
 same-length-3 : tie.Need-same-length-3
-same-length-3 c = search needs
+same-length-3 c = to-nodes (to-edges c) .store-nodes .kept .1 .1 .0
 
 same-length-4 : tie.Need-same-length-4
-same-length-4 c = search needs
+same-length-4 c = to-nodes (to-edges c) .store-nodes .kept .1 .1 .1 .0
 
 same-length-5 : tie.Need-same-length-5
-same-length-5 c = search needs
+same-length-5 c = to-nodes (to-edges c) .store-nodes .kept .1 .1 .1 .1 .0
 
 same-length-6 : tie.Need-same-length-6
-same-length-6 c = search needs
+same-length-6 c = to-edges c .store-edges .kept .0
 
 same-length-7 : tie.Need-same-length-7
-same-length-7 c = search needs
+same-length-7 c = to-edges c .store-edges .kept .1 .0
 
 same-length-8 : tie.Need-same-length-8
-same-length-8 c = search needs
+same-length-8 c = to-edges c .store-edges .kept .1 .1 .0
 
 returns-3 : tie.Need-returns-3
 returns-3 c =
-    let stored = c .before .before .before .before .before .before in
+    let stored = to-edges c in
     let nodes = to-nodes stored in
     let told = to-accepted nodes in
     let j = to-judged told in

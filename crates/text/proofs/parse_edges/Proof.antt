@@ -1,39 +1,39 @@
--- A wrong row is one of the M that were to be read, so that its number is known to fit.
-use mathlib.Core.Path.{sym, _∙_}
+-- A wrong edge row, or an extra row after the last, is told by its number, which is known to fit.
+use mathlib.Core.Path.{_∙_}
 use native.Mathlib.Omega.{arith}
-use Rattle.text.specs.Text.{edgeRow}
-use Rattle.text.specs.Text.Ends.{end-bound, tail-by}
-use borrow.Author.Needs.{needs}
+use Rattle.text.specs.Text.Ends.{tail-by}
 use Rattle.text.proofs.parse_edges.Statement.{statement}
 use Rattle.text.proofs.parse_edges.Tie as tie
 
--- what is known once the edge rows were read
-module _ (c : tie.After-read-edges) where
-  abbrev start : tie.Start
-  start = c .before .before .before .before .before .before .before .before
+-- ---- the way back from a place
+
+abbrev to-start : tie.After-read-edges → tie.Start
+to-start c = c .before .before .before .before .before .before .before .before
+
+abbrev to-read : tie.After-end-text → tie.After-read-edges
+to-read c = c .before .before .before .before .before .before .before .before
 
 read-edges-requires : tie.Need-read-edges-requires
-read-edges-requires c κs = search needs
+read-edges-requires c κs = let p = c .before .before .before .before .before .before .before .pre in (p .0 .0, (p .1, p .2, p .3))
+
+add-end-text : tie.Need-add-end-text
+add-end-text c = let p = to-start (c .before .before .before .before .before .before .before) .pre in omega (arith, p .0)
 
 end-text-requires : tie.Need-end-text-requires
-end-text-requires c κs =
-    let read = c .before .before .before .before .before .before in
-    let a = start read .args in
-    let p = start read .pre in
-    (p .0 .0, p .0 .1, λ j e. omega (arith, end-bound (edgeRow (a .s .now)) _ (a .from) 0 j (sym (read .read-edges .ensures .answer) ∙ e)))
+end-text-requires c κs = tt
 
 same-length : tie.Need-same-length
-same-length c = search needs
+same-length c = to-read c .read-edges .kept .0
 
 same-length-2 : tie.Need-same-length-2
-same-length-2 c = search needs
+same-length-2 c = to-read c .read-edges .kept .1 .0
 
 same-length-3 : tie.Need-same-length-3
-same-length-3 c = search needs
+same-length-3 c = to-read c .read-edges .kept .1 .1 .0
 
 returns : tie.Need-returns
 returns c =
-    let e = c .before .before .before .before .before .before .before .read-edges .ensures in
+    let e = to-read c .read-edges .ensures in
     record { answer = c .end-text .ensures ∙ tail-by _ _ _ _ (e .answer); so = e .so }
 
 pub parse-edges-spec : {M : Type 1} → statement M
@@ -41,6 +41,7 @@ parse-edges-spec =
     tie.close
     (tie.spec
     read-edges-requires
+    add-end-text
     end-text-requires
     same-length
     same-length-2

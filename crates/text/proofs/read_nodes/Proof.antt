@@ -11,8 +11,8 @@ use Rattle.text.proofs.read_nodes.Tie as tie
 
 -- The rows from i on, read from p, end where all of them do, and each slice is on its way to what all of them say.
 abbrev Inv-loop : tie.InvT-loop
-Inv-loop kinds₀ checks₀ privileged₀ entries₀ grants₀ s from n p₀ i₀ kinds checks privileged entries grants p i =
-    (endFrom (keptRow s) (n - i) p i ≡ endFrom (keptRow s) n from 0)
+Inv-loop kinds₀ checks₀ privileged₀ entries₀ grants₀ s from first n p₀ i₀ kinds checks privileged entries grants p i =
+    (endFrom (keptRow s) first (n - i) p i ≡ endFrom (keptRow s) first n from 0)
     × Slot (keptRow s) (λ x. x .kind) n from kinds₀ kinds p i
     × Slot (keptRow s) (λ x. x .check) n from checks₀ checks p i
     × Slot (keptRow s) (λ x. x .privileged) n from privileged₀ privileged p i
@@ -20,7 +20,7 @@ Inv-loop kinds₀ checks₀ privileged₀ entries₀ grants₀ s from n p₀ i�
     × Slot (keptRow s) (λ x. x .grants) n from grants₀ grants p i
 
 abbrev μ-loop : tie.MeasureT-loop
-μ-loop kinds₀ checks₀ privileged₀ entries₀ grants₀ s from n p₀ i₀ kinds checks privileged entries grants p i = n - i
+μ-loop kinds₀ checks₀ privileged₀ entries₀ grants₀ s from first n p₀ i₀ kinds checks privileged entries grants p i = n - i
 
 -- the row that was read
 module _ (c : tie.After-read-node Inv-loop μ-loop) where
@@ -31,7 +31,7 @@ module _ (c : tie.After-read-node Inv-loop μ-loop) where
   row e = node-told (nodeAt (start .args .s .now) (c .before .before .loop .p) (c .before .before .loop .i)) (sym (c .read-node .ensures) ∙ e)
 
 loop-holds : tie.Need-loop-holds Inv-loop μ-loop
-loop-holds c = (end-start _ _ _, slot-start _ _ _ _ _, slot-start _ _ _ _ _, slot-start _ _ _ _ _, slot-start _ _ _ _ _, slot-start _ _ _ _ _)
+loop-holds c = (end-start _ _ _ _, slot-start _ _ _ _ _, slot-start _ _ _ _ _, slot-start _ _ _ _ _, slot-start _ _ _ _ _, slot-start _ _ _ _ _)
 
 read-node-requires : tie.Need-read-node-requires Inv-loop μ-loop
 read-node-requires c κs = search needs
@@ -41,6 +41,9 @@ enum-known-node c = search needs
 
 enum-told : tie.Need-enum-told Inv-loop μ-loop
 enum-told c = search needs
+
+add-t16 : tie.Need-add-t16 Inv-loop μ-loop
+add-t16 c = search needs
 
 same-length : tie.Need-same-length Inv-loop μ-loop
 same-length c = c .before .before .before .before .loop .inv .1 .long
@@ -63,7 +66,7 @@ returns c =
     let h = r .before .loop-test .taken in
     let w = row r (c .enum-told .given .1) in
     let v = r .before .before .loop .inv in
-    record { answer = end-stop _ _ _ h w (v .0); so = record { kinds = slot-stop _ _ _ (v .1) h w; checks = slot-stop _ _ _ (v .2) h w; privileged = slot-stop _ _ _ (v .3) h w; entries = slot-stop _ _ _ (v .4) h w; grants = slot-stop _ _ _ (v .5) h w } }
+    record { answer = end-stop _ _ _ _ h w (v .0); so = record { kinds = slot-stop _ _ _ (v .1) h w; checks = slot-stop _ _ _ (v .2) h w; privileged = slot-stop _ _ _ (v .3) h w; entries = slot-stop _ _ _ (v .4) h w; grants = slot-stop _ _ _ (v .5) h w } }
 
 slice-write-kinds : tie.Need-slice-write-kinds Inv-loop μ-loop
 slice-write-kinds c = omega arith
@@ -98,7 +101,7 @@ loop-again c =
     let h = r .before .loop-test .taken in
     let v = r .before .before .loop .inv in
     let w = row r (c .before .node .given .1) in
-    (end-step _ _ _ h w (v .0), slot-step _ _ _ (v .1) h w, slot-step _ _ _ (v .2) h w, slot-step _ _ _ (v .3) h w, slot-step _ _ _ (v .4) h w, slot-step _ _ _ (v .5) h w)
+    (end-step _ _ _ _ h w (v .0), slot-step _ _ _ (v .1) h w, slot-step _ _ _ (v .2) h w, slot-step _ _ _ (v .3) h w, slot-step _ _ _ (v .4) h w, slot-step _ _ _ (v .5) h w)
 
 same-length-6 : tie.Need-same-length-6 Inv-loop μ-loop
 same-length-6 c = c .before .loop .inv .1 .long
@@ -119,7 +122,7 @@ returns-2 : tie.Need-returns-2 Inv-loop μ-loop
 returns-2 c =
     let v = c .before .loop .inv in
     let h = c .loop-test .left in
-    record { answer = end-out _ _ _ h (v .0); so = record { kinds = slot-out _ _ _ (v .1) h; checks = slot-out _ _ _ (v .2) h; privileged = slot-out _ _ _ (v .3) h; entries = slot-out _ _ _ (v .4) h; grants = slot-out _ _ _ (v .5) h } }
+    record { answer = end-out _ _ _ _ h (v .0); so = record { kinds = slot-out _ _ _ (v .1) h; checks = slot-out _ _ _ (v .2) h; privileged = slot-out _ _ _ (v .3) h; entries = slot-out _ _ _ (v .4) h; grants = slot-out _ _ _ (v .5) h } }
 
 pub read-nodes-spec : {M : Type 1} → statement M
 read-nodes-spec =
@@ -131,6 +134,7 @@ read-nodes-spec =
     read-node-requires
     enum-known-node
     enum-told
+    add-t16
     same-length
     same-length-2
     same-length-3

@@ -6,78 +6,67 @@ use mathlib.Core.List.{List, [], _∷_}
 use native.Mathlib.Omega.{arith}
 use lib.ListN.{length}
 use lib.Dec.{ltb}
-use borrow.Author.Tests.{lt-ltb, le-ltb, ltb-true, ltb-false}
+use borrow.Author.Tests.{ltb-true, ltb-false}
 use Rattle.truth.specs.Truth.Bools.{by-split}
 use Rattle.records.specs.declared.Node.{Node}
 use Rattle.records.specs.declared.Edge.{Edge}
 use Rattle.graph.specs.declared.Size.{Size}
 use Rattle.records.specs.Records.{Got, got, no, headerAt, nodeAt, kept}
 use Rattle.records.specs.Records.Rows.{header-ranges}
-use Rattle.handover.specs.Handover.{Lent}
-use Rattle.text.specs.declared.Ran.{Ran}
-use Rattle.text.specs.declared.Ran.the-variants.{Past, Stop}
-use Rattle.text.specs.declared.Parsed.{Parsed}
-use Rattle.text.specs.declared.Parsed.the-variants.{Counted, Wrong}
-use Rattle.text.specs.Text.{Rows, rows, stop, onto, rowsAt, edgeRow, says, wrong, textAt, Stores}
+use Rattle.extent.specs.Extent.{endOf}
+use Rattle.extent.specs.Extent.Laws.{end-wrong, end-more, end-done}
+use Rattle.handover.specs.Handover.{Lent, NodesWritten}
+use Rattle.extent.specs.declared.Ran.{Ran}
+use Rattle.extent.specs.declared.Ran.the-variants.{Past, Stop}
+use Rattle.extent.specs.declared.Parsed.{Parsed}
+use Rattle.extent.specs.declared.Parsed.the-variants.{Counted, Wrong}
+use Rattle.text.specs.Text.{Rows, rows, stop, onto, rowsAt, edgeRow, says, wrong, textAt, nodeColumns, Stores}
 use Rattle.text.specs.Text.Kept.{keptAll}
-use Rattle.text.specs.Text.Parts.{rowsFrom, endFrom, keptRow, tailFrom, tailOf, restOf, edgesAfter, RestRead, Parses, counted, faulty}
+use Rattle.text.specs.Text.Parts.{rowsFrom, endFrom, keptRow, tailOf, NodesRead, TailRead, Parses, counted, faulty}
 
 past-stop : {P : Type 0} {q j : ℕ} → Past q ≡ Stop j → P
 past-stop e = let z : _≡_ {A = ℕ} 0 1 = cc in absurd (omega arith)
 
 -- ---- rows, by where they end
 
-module _ {X : Type 0} (row : (from i : ℕ) → Got X) where
-  -- a wrong row is one of those that were to be read
-  pub end-bound : (n p i j : ℕ) → endFrom row n p i ≡ Stop j → j < i + n
-  unfolding endFrom
-  end-bound zero p i j e = past-stop e
-  end-bound (suc n) p i j e = by (row p i) refl (λ q. end-bound n q (i + 1) j)
-    where
-      by : (g : Got X) → row p i ≡ g → ((q : ℕ) → endFrom row n q (i + 1) ≡ Stop j → j < i + 1 + n) → j < i + suc n
-      by no w r =
-          let f : Stop i ≡ Stop j = simp w at e in
-          let q : i ≡ j = cc in
-          omega arith
-      by (got x q) w r =
-          let f : endFrom row n q (i + 1) ≡ Stop j = simp w at e in
-          omega (arith, r q f)
-
+module _ {X : Type 0} (row : (from i : ℕ) → Got X) (first : ℕ) where
   -- rows that are all right are as many as were asked for, and are the rows
-  pub rows-past : (n p i : ℕ) {q : ℕ} → endFrom row n p i ≡ Past q → (rowsAt row n p i ≡ rows (rowsFrom row n p i) q) × (length (rowsFrom row n p i) ≡ n)
+  pub rows-past : (n p i : ℕ) {q : ℕ} → endFrom row first n p i ≡ Past q → (rowsAt row n p i ≡ rows (rowsFrom row n p i) q) × (length (rowsFrom row n p i) ≡ n)
   unfolding endFrom rowsFrom rowsAt
   rows-past zero p i {q} e = let f : p ≡ q = cc in (rw f refl, refl)
   rows-past (suc n) p i {q} e = by (row p i) refl (λ r. rows-past n r (i + 1))
     where
-      by : (g : Got X) → row p i ≡ g → ((r : ℕ) → endFrom row n r (i + 1) ≡ Past q → (rowsAt row n r (i + 1) ≡ rows (rowsFrom row n r (i + 1)) q) × (length (rowsFrom row n r (i + 1)) ≡ n))
+      by : (g : Got X) → row p i ≡ g → ((r : ℕ) → endFrom row first n r (i + 1) ≡ Past q → (rowsAt row n r (i + 1) ≡ rows (rowsFrom row n r (i + 1)) q) × (length (rowsFrom row n r (i + 1)) ≡ n))
           → (rowsAt row (suc n) p i ≡ rows (rowsFrom row (suc n) p i) q) × (length (rowsFrom row (suc n) p i) ≡ suc n)
-      by no w r = let f : Stop i ≡ Past q = simp w at e in past-stop (sym f)
+      by no w r = let f : Stop (first + i) ≡ Past q = simp w at e in past-stop (sym f)
       by (got x t) w r =
-          let f : endFrom row n t (i + 1) ≡ Past q = simp w at e in
+          let f : endFrom row first n t (i + 1) ≡ Past q = simp w at e in
           (simp w (ap (onto x) (r t f .0)), simp w (ap suc (r t f .1)))
 
-  pub rows-stop : (n p i : ℕ) {j : ℕ} → endFrom row n p i ≡ Stop j → rowsAt row n p i ≡ stop j
+  -- the first that is wrong, by its number
+  pub rows-stop : (n p i : ℕ) {j : ℕ} → endFrom row first n p i ≡ Stop j → (k : ℕ) × (rowsAt row n p i ≡ stop k) × (first + k ≡ j)
   unfolding endFrom rowsAt
   rows-stop zero p i e = past-stop e
   rows-stop (suc n) p i {j} e = by (row p i) refl (λ r. rows-stop n r (i + 1))
     where
-      by : (g : Got X) → row p i ≡ g → ((r : ℕ) → endFrom row n r (i + 1) ≡ Stop j → rowsAt row n r (i + 1) ≡ stop j) → rowsAt row (suc n) p i ≡ stop j
+      by : (g : Got X) → row p i ≡ g → ((r : ℕ) → endFrom row first n r (i + 1) ≡ Stop j → (k : ℕ) × (rowsAt row n r (i + 1) ≡ stop k) × (first + k ≡ j))
+          → (k : ℕ) × (rowsAt row (suc n) p i ≡ stop k) × (first + k ≡ j)
       by no w r =
-          let f : Stop i ≡ Stop j = simp w at e in
-          let q : i ≡ j = cc in
-          simp w (rw q refl)
+          let f : Stop (first + i) ≡ Stop j = simp w at e in
+          let q : first + i ≡ j = cc in
+          (i, simp w, q)
       by (got x t) w r =
-          let f : endFrom row n t (i + 1) ≡ Stop j = simp w at e in
-          simp w (ap (onto x) (r t f))
+          let f : endFrom row first n t (i + 1) ≡ Stop j = simp w at e in
+          (r t f .0, simp w (ap (onto x) (r t f .1)), r t f .2)
 
 -- ---- node rows as they are kept
 
-kept-end : (s : List ℕ) (n p i : ℕ) → endFrom (keptRow s) n p i ≡ endFrom (nodeAt s) n p i
+kept-end : (s : List ℕ) (first n p i : ℕ) → endFrom (keptRow s) first n p i ≡ endFrom (nodeAt s) first n p i
 unfolding endFrom
-kept-end s zero p i = refl
-kept-end s (suc n) p i = by (nodeAt s p i) refl (λ q. kept-end s n q (i + 1))
+kept-end s first zero p i = refl
+kept-end s first (suc n) p i = by (nodeAt s p i) refl (λ q. kept-end s first n q (i + 1))
   where
-    by : (g : Got Node) → nodeAt s p i ≡ g → ((q : ℕ) → endFrom (keptRow s) n q (i + 1) ≡ endFrom (nodeAt s) n q (i + 1)) → endFrom (keptRow s) (suc n) p i ≡ endFrom (nodeAt s) (suc n) p i
+    by : (g : Got Node) → nodeAt s p i ≡ g → ((q : ℕ) → endFrom (keptRow s) first n q (i + 1) ≡ endFrom (nodeAt s) first n q (i + 1)) → endFrom (keptRow s) first (suc n) p i ≡ endFrom (nodeAt s) first (suc n) p i
     by no w r = simp w
     by (got x q) w r = simp w (r q)
 
@@ -90,41 +79,11 @@ kept-rows s (suc n) p i = by (nodeAt s p i) refl (λ q. kept-rows s n q (i + 1))
     by no w r = simp w
     by (got x q) w r = simp w (ap (λ l. kept x ∷ l) (r q))
 
--- ---- the parts
+-- ---- the edge rows and the end
 
-module _ {ran : Ran} (len row : ℕ) (c : Size) where
-  pub tail-stop : {j : ℕ} → ran ≡ Stop j → tailFrom ran len row c ≡ Wrong (row + j)
-  unfolding tailFrom
-  tail-stop e = simp e
-
-  pub tail-more : {q : ℕ} → ran ≡ Past q → q < len → tailFrom ran len row c ≡ Wrong (row + c .m)
-  unfolding tailFrom
-  tail-more e h = simp (e, lt-ltb _ _ h)
-
-  pub tail-done : {q : ℕ} → ran ≡ Past q → len ≤ q → tailFrom ran len row c ≡ Counted c
-  unfolding tailFrom
-  tail-done e h = simp (e, le-ltb _ _ h)
-
-module _ (s : List ℕ) (p : ℕ) (c : Size) where
-  pub tail-by : {r : Ran} (row : ℕ) → r ≡ endFrom (edgeRow s) (c .m) p 0 → tailFrom r (length s) row c ≡ tailOf s p row c
-  unfolding tailOf
-  tail-by row e = ap (λ (x : Ran). tailFrom x (length s) row c) e
-
-  pub rest-stop : {i : ℕ} (row : ℕ) → endFrom (keptRow s) (c .n) p 0 ≡ Stop i → restOf s p row c ≡ Wrong (row + i)
-  unfolding restOf
-  rest-stop row e = simp e
-
-  pub edges-stop : {i : ℕ} → endFrom (keptRow s) (c .n) p 0 ≡ Stop i → edgesAfter s p c ≡ []
-  unfolding edgesAfter
-  edges-stop e = simp e
-
-  pub rest-past : {q : ℕ} (row : ℕ) → endFrom (keptRow s) (c .n) p 0 ≡ Past q → restOf s p row c ≡ tailOf s q (row + c .n) c
-  unfolding restOf
-  rest-past row e = simp e
-
-  pub edges-past : {q : ℕ} → endFrom (keptRow s) (c .n) p 0 ≡ Past q → edgesAfter s p c ≡ rowsFrom (edgeRow s) (c .m) q 0
-  unfolding edgesAfter
-  edges-past e = simp e
+pub tail-by : (s : List ℕ) (p row : ℕ) (c : Size) {r : Ran} → r ≡ endFrom (edgeRow s) row (c .m) p 0 → endOf r (length s) (row + c .m) c ≡ tailOf s p row c
+unfolding tailOf
+tail-by s p row c e = ap (λ (x : Ran). endOf x (length s) (row + c .m) c) e
 
 -- ---- the text
 
@@ -154,43 +113,44 @@ module _ (s : List ℕ) (from row : ℕ) where
       unfolding textAt
       text-says g h = simp (e, f, g, h)
 
-    module _ {r : Parsed} {before after : Lent} (d : RestRead s p (row + 1) c r before after) where
-      parses-wrong : {x : ℕ} → r ≡ Wrong x → textAt s from row ≡ wrong x → Parses before s from row r after
-      parses-wrong {x} a w = subst (λ (y : Parsed). Parses before s from row y after) (sym a) (faulty w)
+    -- a node row that is wrong
+    pub parse-stop : {before after : Lent} {ran : Ran} {i : ℕ} → ran ≡ endFrom (keptRow s) (row + 1) (c .n) p 0 → ran ≡ Stop i → Parses before s from row (Wrong i) after
+    parse-stop a u =
+        let w = rows-stop (nodeAt s) (row + 1) (c .n) p 0 (sym (kept-end s (row + 1) (c .n) p 0) ∙ sym a ∙ u) in
+        faulty (text-node (w .1) ∙ ap wrong (w .2))
 
-      module _ {q : ℕ} (u : endFrom (keptRow s) (c .n) p 0 ≡ Past q) where
-        ns : List Node
-        ns = rowsFrom (nodeAt s) (c .n) p 0
+    -- node rows that are right, and the rest
+    module _ {before after : Lent} {ran : Ran} {q : ℕ} {r : Parsed} (h : NodesRead s p (row + 1) (c .n) ran (before .nodes) (after .nodes)) (u : ran ≡ Past q) (t : TailRead s q (row + 1 + c .n) c r (before .edges) (after .edges)) where
+      ns : List Node
+      ns = rowsFrom (nodeAt s) (c .n) p 0
 
-        es : List Edge
-        es = rowsFrom (edgeRow s) (c .m) q 0
+      es : List Edge
+      es = rowsFrom (edgeRow s) (c .m) q 0
 
-        nodes-are : (rowsAt (nodeAt s) (c .n) p 0 ≡ rows ns q) × (length ns ≡ c .n)
-        unfolding ns
-        nodes-are = rows-past (nodeAt s) (c .n) p 0 (sym (kept-end s (c .n) p 0) ∙ u)
+      nodes-are : (rowsAt (nodeAt s) (c .n) p 0 ≡ rows ns q) × (length ns ≡ c .n)
+      unfolding ns
+      nodes-are = rows-past (nodeAt s) (row + 1) (c .n) p 0 (sym (kept-end s (row + 1) (c .n) p 0) ∙ sym (h .answer) ∙ u)
 
-        so : Stores before (keptAll ns) es after
-        unfolding ns es
-        so = subst (λ l. Stores before l es after) (kept-rows s (c .n) p 0) (subst (λ l. Stores before (rowsFrom (keptRow s) (c .n) p 0) l after) (edges-past s p c u) (d .so))
+      so : Stores before (keptAll ns) es after
+      unfolding ns es
+      so = record { nodes = subst (λ l. NodesWritten (before .nodes) (nodeColumns l) (after .nodes)) (kept-rows s (c .n) p 0) (h .so); edges = t .so }
 
-        answers : r ≡ tailOf s q (row + 1 + c .n) c
-        answers = d .answer ∙ rest-past s p c (row + 1) u
+      answers : {x : Ran} {y : Parsed} → endFrom (edgeRow s) (row + 1 + c .n) (c .m) q 0 ≡ x → endOf x (length s) (row + 1 + c .n + c .m) c ≡ y → r ≡ y
+      answers v w = t .answer ∙ sym (tail-by s q (row + 1 + c .n) c (sym v)) ∙ w
 
-        by-edges : (x : Ran) → endFrom (edgeRow s) (c .m) q 0 ≡ x → Parses before s from row r after
-        unfolding es
-        by-edges (Stop j) v =
-            parses-wrong (answers ∙ sym (tail-by s q c _ (sym v)) ∙ tail-stop _ _ c refl) (text-edge (nodes-are .0) (rows-stop (edgeRow s) (c .m) q 0 v))
-        by-edges (Past t) v =
-            let g = rows-past (edgeRow s) (c .m) q 0 v in
-            by-split (ltb t (length s))
-            (λ h. parses-wrong (answers ∙ sym (tail-by s q c _ (sym v)) ∙ tail-more _ _ c refl (ltb-true t (length s) h)) (text-extra (nodes-are .0) (g .0) h))
-            (λ h. subst (λ (y : Parsed). Parses before s from row y after) (sym (answers ∙ sym (tail-by s q c _ (sym v)) ∙ tail-done _ _ c refl (ltb-false t (length s) h)))
-            (counted (header-ranges s from e) (text-says (nodes-are .0) (g .0) h) (sym (nodes-are .1)) (sym (g .1)) so))
+      parses : {y : Parsed} → r ≡ y → Parses before s from row y after → Parses before s from row r after
+      parses a d = subst (λ (y : Parsed). Parses before s from row y after) (sym a) d
 
-      by-nodes : (x : Ran) → endFrom (keptRow s) (c .n) p 0 ≡ x → Parses before s from row r after
-      by-nodes (Stop i) u =
-          parses-wrong (d .answer ∙ rest-stop s p c (row + 1) u) (text-node (rows-stop (nodeAt s) (c .n) p 0 (sym (kept-end s (c .n) p 0) ∙ u)))
-      by-nodes (Past q) u = by-edges u (endFrom (edgeRow s) (c .m) q 0) refl
+      by-edges : (x : Ran) → endFrom (edgeRow s) (row + 1 + c .n) (c .m) q 0 ≡ x → Parses before s from row r after
+      unfolding es
+      by-edges (Stop j) v =
+          let w = rows-stop (edgeRow s) (row + 1 + c .n) (c .m) q 0 v in
+          parses (answers v (end-wrong _ _ c refl)) (faulty (text-edge (nodes-are .0) (w .1) ∙ ap wrong (w .2)))
+      by-edges (Past x) v =
+          let g = rows-past (edgeRow s) (row + 1 + c .n) (c .m) q 0 v in
+          by-split (ltb x (length s))
+          (λ l. parses (answers v (end-more _ _ c refl (ltb-true x (length s) l))) (faulty (text-extra (nodes-are .0) (g .0) l)))
+          (λ l. parses (answers v (end-done _ _ c refl (ltb-false x (length s) l))) (counted (header-ranges s from e) (text-says (nodes-are .0) (g .0) l) (sym (nodes-are .1)) (sym (g .1)) so))
 
-      pub parse-rest : Parses before s from row r after
-      parse-rest = by-nodes (endFrom (keptRow s) (c .n) p 0) refl
+      pub parse-past : Parses before s from row r after
+      parse-past = by-edges (endFrom (edgeRow s) (row + 1 + c .n) (c .m) q 0) refl

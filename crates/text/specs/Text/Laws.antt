@@ -14,6 +14,7 @@ use Rattle.graph.specs.Refusals.Laws.{numbered-one}
 use Rattle.graph.specs.Judge.{Judges, judge}
 use Rattle.graph.specs.Judge.Laws.{judge-judges, judges-judge, accepted-is}
 use Rattle.graph.specs.declared.Size.{Size}
+use Rattle.graph.specs.declared.Refusal.{Refusal}
 use Rattle.graph.specs.declared.Refusal.the-variants as why
 use Rattle.graph.specs.declared.Judged.{Judged}
 use Rattle.graph.specs.declared.Judged.the-variants as judged
@@ -22,17 +23,16 @@ use Rattle.handover.specs.Handover.Laws.{room?, held-judges, wrote, nodes-back,
 use Rattle.records.specs.declared.Node.{Node}
 use Rattle.records.specs.declared.Edge.{Edge}
 use Rattle.records.specs.Records.{kept}
-use Rattle.text.specs.declared.Sizes.{Sizes}
-use Rattle.text.specs.declared.Sizes.the-variants.{Fit, NoRoom, TooLong}
-use Rattle.text.specs.declared.Parsed.{Parsed}
-use Rattle.text.specs.declared.Parsed.the-variants.{Counted, Wrong}
+use Rattle.extent.specs.Extent.{SizesSo}
+use Rattle.extent.specs.Extent as extent
+use Rattle.extent.specs.declared.Parsed.{Parsed}
+use Rattle.extent.specs.declared.Parsed.the-variants.{Counted, Wrong}
 use Rattle.text.specs.declared.Reading.{Reading}
 use Rattle.text.specs.declared.Reading.the-variants as answer
 use Rattle.text.specs.Text.{Meaning, says, wrong, textAt, nodeColumns, edgeColumns, graphFrom, Outcome, read, onJudged, onMeaning, outcomeFrom, readingFrom, Stores, Tells, stored, refuses}
 use Rattle.text.specs.Text as text
 use Rattle.text.specs.Text.Kept.{columns-long, edge-columns-long, keptAll, kept-judges, kept-same}
-use Rattle.text.specs.Text.Parts.{Parses, counted, faulty, told, SizesSo}
-use Rattle.text.specs.Text.Parts as parts
+use Rattle.text.specs.Text.Parts.{Parses, counted, faulty, told}
 
 -- ---- what was parsed
 
@@ -130,24 +130,20 @@ module _ (x : Lent) (s : List ℕ) (from row : ℕ) where
     unfolding readingFrom outcomeFrom
     reading-sized h = rw (true-says (room? x) r, le-ltb 65536 (length s) h) refl
 
-  module _ {z : Sizes} (h : SizesSo (mapNode length (x .nodes)) (mapEdge length (x .edges)) (length s) z) where
-    pub sizes-short : z ≡ NoRoom → readingFrom x s from row ≡ text.refused (1 at 0)
-    sizes-short e = by-sizes (subst (SizesSo _ _ _) e h)
+  -- refused for the lengths, or read
+  module _ {z : Judged} (h : SizesSo (mapNode length (x .nodes)) (mapEdge length (x .edges)) (length s) z) where
+    pub sizes-refused : {r : Refusal} → z ≡ judged.Refused r → readingFrom x s from row ≡ text.refused (numbered r)
+    sizes-refused e = by-sizes (subst (SizesSo _ _ _) e h)
       where
-        by-sizes : SizesSo (mapNode length (x .nodes)) (mapEdge length (x .edges)) (length s) NoRoom → readingFrom x s from row ≡ text.refused (1 at 0)
-        by-sizes (parts.cramped d) = reading-short (λ r. d (r .nodes, r .edges))
+        by-sizes : {r : Refusal} → SizesSo (mapNode length (x .nodes)) (mapEdge length (x .edges)) (length s) (judged.Refused r) → readingFrom x s from row ≡ text.refused (numbered r)
+        by-sizes (extent.cramped d) = reading-short (λ r. d (r .nodes, r .edges))
+        by-sizes (extent.long l k) = reading-long (record { nodes = l .0; edges = l .1 }) k
 
-    pub sizes-long : z ≡ TooLong → readingFrom x s from row ≡ text.refused (12 at 0)
-    sizes-long e = by-sizes (subst (SizesSo _ _ _) e h)
-      where
-        by-sizes : SizesSo (mapNode length (x .nodes)) (mapEdge length (x .edges)) (length s) TooLong → readingFrom x s from row ≡ text.refused (12 at 0)
-        by-sizes (parts.long l k) = reading-long (record { nodes = l .0; edges = l .1 }) k
-
-    pub sizes-fit : z ≡ Fit → Room x × (readingFrom x s from row ≡ onMeaning (textAt s from row))
+    pub sizes-fit : z ≡ judged.Accepted → Room x × (readingFrom x s from row ≡ onMeaning (textAt s from row))
     sizes-fit e = by-sizes (subst (SizesSo _ _ _) e h)
       where
-        by-sizes : SizesSo (mapNode length (x .nodes)) (mapEdge length (x .edges)) (length s) Fit → Room x × (readingFrom x s from row ≡ onMeaning (textAt s from row))
-        by-sizes (parts.fit l k) = let r : Room x = record { nodes = l .0; edges = l .1 } in (r, reading-sized r k)
+        by-sizes : SizesSo (mapNode length (x .nodes)) (mapEdge length (x .edges)) (length s) judged.Accepted → Room x × (readingFrom x s from row ≡ onMeaning (textAt s from row))
+        by-sizes (extent.fit l k) = let r : Room x = record { nodes = l .0; edges = l .1 } in (r, reading-sized r k)
 
 pub tells-by : {o p : Outcome} {before after : Lent} {r : Reading} → o ≡ p → Tells p before r after → Tells o before r after
 tells-by {before = before} {after = after} {r = r} e t = subst (λ (q : Outcome). Tells q before r after) (sym e) t

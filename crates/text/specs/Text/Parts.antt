@@ -12,14 +12,13 @@ use Rattle.records.specs.declared.Node.{Node}
 use Rattle.records.specs.declared.Edge.{Edge}
 use Rattle.graph.specs.declared.Size.{Size}
 use Rattle.records.specs.Records.{Got, got, no, onGot, nodeAt, kept}
-use Rattle.text.specs.declared.Sizes.{Sizes}
-use Rattle.text.specs.declared.Sizes.the-variants.{Fit, NoRoom, TooLong}
-use Rattle.text.specs.declared.Ran.{Ran}
-use Rattle.text.specs.declared.Ran.the-variants.{Past, Stop}
+use Rattle.extent.specs.Extent.{endOf}
+use Rattle.extent.specs.declared.Ran.{Ran}
+use Rattle.extent.specs.declared.Ran.the-variants.{Past, Stop}
 use Rattle.text.specs.declared.Reading.{Reading}
 use Rattle.text.specs.declared.Reading.the-variants as answer
-use Rattle.text.specs.declared.Parsed.{Parsed}
-use Rattle.text.specs.declared.Parsed.the-variants.{Counted, Wrong}
+use Rattle.extent.specs.declared.Parsed.{Parsed}
+use Rattle.extent.specs.declared.Parsed.the-variants.{Counted, Wrong}
 use Rattle.text.specs.Text.Kept.{keptAll}
 use Rattle.handover.specs.Handover.{Lent, NodesWritten, EdgesWritten}
 use Rattle.text.specs.Text.{says, wrong, textAt, Stores, edgeRow, nodeColumns, edgeColumns}
@@ -32,50 +31,32 @@ module _ {X : Type 0} (row : (from i : ℕ) → Got X) where
   rowsFrom zero from i = []
   rowsFrom (suc count) from i = onGot (row from i) [] (λ x p. x ∷ rowsFrom count p (i + 1))
 
-  unfoldable pub endFrom : (count from i : ℕ) → Ran
-  endFrom zero from i = Past from
-  endFrom (suc count) from i = onGot (row from i) (Stop i) (λ x p. endFrom count p (i + 1))
+  -- where they end, if the first row of all has this number
+  unfoldable pub endFrom : (first count from i : ℕ) → Ran
+  endFrom first zero from i = Past from
+  endFrom first (suc count) from i = onGot (row from i) (Stop (first + i)) (λ x p. endFrom first count p (i + 1))
 
 -- a node's row, as it is handed on
 abbrev pub keptRow : List ℕ → (from i : ℕ) → Got Node
 keptRow s from i = onGot (nodeAt s from i) no (λ x p. got (kept x) p)
 
-pub record NodesRead (s : List ℕ) (from n : ℕ) (r : Ran) (before after : PerNode (List ℕ)) : Type 0 where
-  pub answer : r ≡ endFrom (keptRow s) n from 0
+pub record NodesRead (s : List ℕ) (from first n : ℕ) (r : Ran) (before after : PerNode (List ℕ)) : Type 0 where
+  pub answer : r ≡ endFrom (keptRow s) first n from 0
   pub so : NodesWritten before (nodeColumns (rowsFrom (keptRow s) n from 0)) after
 
-pub record EdgesRead (s : List ℕ) (from m : ℕ) (r : Ran) (before after : PerEdge (List ℕ)) : Type 0 where
-  pub answer : r ≡ endFrom (edgeRow s) m from 0
+pub record EdgesRead (s : List ℕ) (from first m : ℕ) (r : Ran) (before after : PerEdge (List ℕ)) : Type 0 where
+  pub answer : r ≡ endFrom (edgeRow s) first m from 0
   pub so : EdgesWritten before (edgeColumns (rowsFrom (edgeRow s) m from 0)) after
 
 -- ---- a whole text, by its parts
 
-abbrev pub onRan : {Y : Type 0} → Ran → (ℕ → Y) → (ℕ → Y) → Y
-onRan (Stop i) f g = f i
-onRan (Past q) f g = g q
-
--- where the edge rows ended, the first of which has this number, says how the text ends
-unfoldable pub tailFrom : Ran → (len row : ℕ) → Size → Parsed
-tailFrom ran len row c = onRan ran (λ j. Wrong (row + j)) (λ q. cond (ltb q len) (Wrong (row + c .m)) (Counted c))
-
+-- the edge rows, the first of which has this number, and the text's end
 unfoldable pub tailOf : List ℕ → (p row : ℕ) → Size → Parsed
-tailOf s p row c = tailFrom (endFrom (edgeRow s) (c .m) p 0) (length s) row c
+tailOf s p row c = endOf (endFrom (edgeRow s) row (c .m) p 0) (length s) (row + c .m) c
 
 pub record TailRead (s : List ℕ) (p row : ℕ) (c : Size) (r : Parsed) (before after : PerEdge (List ℕ)) : Type 0 where
   pub answer : r ≡ tailOf s p row c
   pub so : EdgesWritten before (edgeColumns (rowsFrom (edgeRow s) (c .m) p 0)) after
-
--- the node rows, the first of which has this number, and the rest
-unfoldable pub restOf : List ℕ → (p row : ℕ) → Size → Parsed
-restOf s p row c = onRan (endFrom (keptRow s) (c .n) p 0) (λ i. Wrong (row + i)) (λ q. tailOf s q (row + c .n) c)
-
--- the edges of the rows that are right
-unfoldable pub edgesAfter : List ℕ → (p : ℕ) → Size → List Edge
-edgesAfter s p c = onRan (endFrom (keptRow s) (c .n) p 0) (λ i. []) (λ q. rowsFrom (edgeRow s) (c .m) q 0)
-
-pub record RestRead (s : List ℕ) (p row : ℕ) (c : Size) (r : Parsed) (before after : Lent) : Type 0 where
-  pub answer : r ≡ restOf s p row c
-  pub so : Stores before (rowsFrom (keptRow s) (c .n) p 0) (edgesAfter s p c) after
 
 -- places for the nodes and edges that are counted
 pub record Places (c : Size) (x : Lent) : Type 0 where
@@ -95,10 +76,3 @@ pub data Parses (before : Lent) (s : List ℕ) (from row : ℕ) : Parsed → Len
 abbrev pub told : Judged → Size → Reading
 told judged.Accepted c = answer.Graph c
 told (judged.Refused r) c = answer.Refused r
-
--- ---- the lengths of the slices and of the text
-
-pub data SizesSo (x : PerNode ℕ) (y : PerEdge ℕ) (text : ℕ) : Sizes → Type 0 where
-  cramped : (NodesLong 1024 x × EdgesLong 4096 y → ⊥) → SizesSo x y text NoRoom
-  long : NodesLong 1024 x × EdgesLong 4096 y → 65536 < text → SizesSo x y text TooLong
-  fit : NodesLong 1024 x × EdgesLong 4096 y → text ≤ 65536 → SizesSo x y text Fit

@@ -14,8 +14,8 @@ use Rattle.records.specs.declared.Edge.{Edge}
 use Rattle.records.specs.declared.EdgeRow.{EdgeRow}
 use Rattle.records.specs.declared.EdgeRow.the-variants as edge
 use Rattle.records.specs.Records.{Got, got, no, onGot, kept, nodeRowOf, edgeRowOf}
-use Rattle.text.specs.declared.Ran.{Ran}
-use Rattle.text.specs.declared.Ran.the-variants.{Past, Stop}
+use Rattle.extent.specs.declared.Ran.{Ran}
+use Rattle.extent.specs.declared.Ran.the-variants.{Past, Stop}
 use Rattle.text.specs.Text.Parts.{rowsFrom, endFrom}
 
 one-less : (n i : ℕ) → i < n → n - i ≡ suc (n - (i + 1))
@@ -27,24 +27,25 @@ pub record Slot {X : Type 0} (row : (from i : ℕ) → Got X) (f : X → ℕ) (n
   pub long : length k ≡ length k₀
 
 module _ {X : Type 0} (row : (from i : ℕ) → Got X) (n from : ℕ) where
-  pub end-start : endFrom row (n - 0) from 0 ≡ endFrom row n from 0
-  end-start = rw sub-zero
+  pub end-start : (first : ℕ) → endFrom row first (n - 0) from 0 ≡ endFrom row first n from 0
+  end-start first = rw sub-zero
 
   pub slot-start : (f : X → ℕ) (k₀ : List ℕ) → Slot row f n from k₀ k₀ from 0
   slot-start f k₀ = record { goes = rw sub-zero; long = refl }
 
   module _ {p i : ℕ} where
-    pub end-out : n ≤ i → endFrom row (n - i) p i ≡ endFrom row n from 0 → Past p ≡ endFrom row n from 0
-    unfolding endFrom
-    end-out h e = rw (sub-eq-zero-of-le h) at e
+    module _ (first : ℕ) where
+      pub end-out : n ≤ i → endFrom row first (n - i) p i ≡ endFrom row first n from 0 → Past p ≡ endFrom row first n from 0
+      unfolding endFrom
+      end-out h e = rw (sub-eq-zero-of-le h) at e
 
-    pub end-stop : i < n → row p i ≡ no → endFrom row (n - i) p i ≡ endFrom row n from 0 → Stop i ≡ endFrom row n from 0
-    unfolding endFrom
-    end-stop h w e = let e′ = rw (one-less n i h) at e in simp w at e′
+      pub end-stop : i < n → row p i ≡ no → endFrom row first (n - i) p i ≡ endFrom row first n from 0 → Stop (first + i) ≡ endFrom row first n from 0
+      unfolding endFrom
+      end-stop h w e = let e′ = rw (one-less n i h) at e in simp w at e′
 
-    pub end-step : {x : X} {q : ℕ} → i < n → row p i ≡ got x q → endFrom row (n - i) p i ≡ endFrom row n from 0 → endFrom row (n - (i + 1)) q (i + 1) ≡ endFrom row n from 0
-    unfolding endFrom
-    end-step h w e = let e′ = rw (one-less n i h) at e in simp w at e′
+      pub end-step : {x : X} {q : ℕ} → i < n → row p i ≡ got x q → endFrom row first (n - i) p i ≡ endFrom row first n from 0 → endFrom row first (n - (i + 1)) q (i + 1) ≡ endFrom row first n from 0
+      unfolding endFrom
+      end-step h w e = let e′ = rw (one-less n i h) at e in simp w at e′
 
     module _ {f : X → ℕ} {k₀ k : List ℕ} (o : Slot row f n from k₀ k p i) where
       pub slot-out : n ≤ i → k ≡ sets k₀ 0 (map f (rowsFrom row n from 0))

@@ -1,9 +1,9 @@
 use borrow.Author.Tests.{not-true, not-false}
 use Rattle.truth.specs.Truth.Tests.{says-true, says-false}
-use Rattle.text.specs.Text.Parts.{cramped, long, fit}
+use Rattle.extent.specs.Extent.{cramped, long, fit}
 use borrow.Author.Needs.{needs}
-use Rattle.text.proofs.judge_sizes.Statement.{statement}
-use Rattle.text.proofs.judge_sizes.Tie as tie
+use Rattle.extent.proofs.judge_sizes.Statement.{statement}
+use Rattle.extent.proofs.judge_sizes.Tie as tie
 
 has-room-requires : tie.Need-has-room-requires
 has-room-requires c κs = search needs

@@ -2,8 +2,8 @@ use Rattle.truth.specs.Truth.Tests.{says-same, says-true, says-false}
 use Rattle.truth.specs.Truth.{fails}
 use borrow.Author.Tests.{not-true, not-false}
 use borrow.Author.Needs.{needs}
-use Rattle.handover.proofs.has_room.Statement.{statement}
-use Rattle.handover.proofs.has_room.Tie as tie
+use Rattle.extent.proofs.has_room.Statement.{statement}
+use Rattle.extent.proofs.has_room.Tie as tie
 
 nodes-long-requires : tie.Need-nodes-long-requires
 nodes-long-requires c κs = search needs

@@ -1,4 +1,4 @@
--- The graph of document 01, its rules, its equations, and what the solver stores. Definitions alone: the laws and the theory are in
+-- The graph, its rules, its equations, and what the solver stores. Definitions alone: the laws and the theory are in
 -- the modules below this one, and nothing here unfolds outside them.
 pub mod Rules
 pub mod Arrivals
@@ -217,10 +217,10 @@ Leads g = LeadsIn (g .size .m) (g .edges)
 
 -- ---- The equations
 
--- The two systems of document 01, figures 5 and 6 of document 001 with two departures from the print:
+-- The two systems: figures 5 and 6 of Bartoletti, Degano and Ferrari, "Static Analysis for Stack Inspection", with two departures from the print:
 -- * The figures empty trans at a privileged check of P whenever no arriving edge carries P. The inspection passes there if the check's
 --   own node grants P, so `transRule` empties it only if that node does not.
--- * Document 001 asks for the "largest" sets without making the side plain. Here MAY is the least solution (with a transfer loop the
+-- * The paper asks for the "largest" sets without making the side plain. Here MAY is the least solution (with a transfer loop the
 --   largest would leave ungranted permissions undenied), and SURE is the greatest, with MAY already found.
 pub data System : Type 0 where
   may : System

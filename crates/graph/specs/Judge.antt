@@ -1,4 +1,4 @@
--- What the check answers: when document 01 gives each of the refusals 1 to 4, and the answer as a computation. Definitions alone.
+-- What the check answers: when each of the refusals 1 to 4 is given, and the answer as a computation. Definitions alone.
 pub mod Laws
 use Prim.Native.Nat.{ℕ, _<_, _^_}
 use mathlib.Core.Bool.{Bool, true, false, cond, not, _&&_, _||_}

@@ -1,4 +1,4 @@
--- Stacks, the two inspections, the steps, and what can be reached: document 01, "Inspection and steps". Definitions alone: the laws and
+-- Stacks, the two inspections, the steps, and what can be reached. Definitions alone: the laws and
 -- demand 3 are in the modules below. A stack is a list of node numbers here, top first, and may be of any height.
 pub mod Inspections
 pub mod Slices

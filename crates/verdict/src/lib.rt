@@ -20,7 +20,7 @@ pub enum Finding {
 }
 
 impl Finding {
-    // Document 01's number of the verdict.
+    // The verdict's number in the rules.
     pub fn number(self) -> usize
         ensures { λ r. ⌜ r ≡ verdictNumber self ⌝ }
     {

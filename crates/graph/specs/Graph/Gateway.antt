@@ -1,4 +1,4 @@
--- The worked gateway of document 01: its graph, and the rows that every content of its slices gives.
+-- The worked gateway: its graph, and the rows that every content of its slices gives.
 use Prim.Native.Nat.{ℕ}
 use mathlib.Core.Path.{_≡_, refl}
 use mathlib.Core.List.{[], _∷_}

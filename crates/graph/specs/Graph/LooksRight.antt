@@ -1,4 +1,4 @@
--- Errors that look right (document 01) and the two departures from the print, each as a small graph whose sets would come out
+-- Errors that look right and the two departures from the print, each as a small graph whose sets would come out
 -- otherwise under the error. K is 2: permissions 0 and 1 are the digits 1 and 2, so a set of both is 3.
 use Prim.Native.Nat.{ℕ, zero, suc}
 use native.Mathlib.Omega.{arith}
@@ -36,12 +36,12 @@ passing = graphOf (sizeOf 2 4 3) (0 ∷ 0 ∷ 2 ∷ 1 ∷ []) (0 ∷ 0 ∷ 0 ∷
 abbrev pub entryCalled : Graph
 entryCalled = graphOf (sizeOf 2 2 1) (0 ∷ 1 ∷ []) (0 ∷ 0 ∷ []) (0 ∷ 0 ∷ []) (1 ∷ 1 ∷ []) (1 ∷ 3 ∷ []) (0 ∷ []) (1 ∷ []) (0 ∷ [])
 
--- Document 01's privileged check: entry call 0 grants 1 and calls node 1, a privileged check of 0 that grants both, and moves on to node 2.
+-- The privileged check of the rules: entry call 0 grants 1 and calls node 1, a privileged check of 0 that grants both, and moves on to node 2.
 -- Emptying trans(1) as in the print, since no arriving edge carries 0: both denied at node 2, where the inspection grants 1.
 abbrev pub privilegedCheck : Graph
 privilegedCheck = graphOf (sizeOf 2 3 2) (0 ∷ 2 ∷ 1 ∷ []) (0 ∷ 0 ∷ 0 ∷ []) (0 ∷ 1 ∷ 0 ∷ []) (1 ∷ 0 ∷ 0 ∷ []) (2 ∷ 3 ∷ 3 ∷ []) (0 ∷ 1 ∷ []) (1 ∷ 2 ∷ []) (0 ∷ 1 ∷ [])
 
--- Document 01's loop: entry call 0 grants 0, and transfers to itself.
+-- The loop of the rules: entry call 0 grants 0, and transfers to itself.
 -- Taking the largest MAY: nothing denied, though 1 is granted nowhere.
 abbrev pub loop : Graph
 loop = graphOf (sizeOf 2 1 1) (0 ∷ []) (0 ∷ []) (0 ∷ []) (1 ∷ []) (1 ∷ []) (0 ∷ []) (0 ∷ []) (1 ∷ [])

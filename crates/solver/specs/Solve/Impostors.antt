@@ -32,7 +32,7 @@ never-refused s t r l (refused f) = go f
     go (results d) = d l
     go (graph _ h) = refuses-not gateway h gateway-accepted
 
--- the content is the one that document 01 prints
+-- the content is the worked one
 pub solved-so : (s t : Slices) → Solves gateway s Accepted t → t ≡ gatewaySlices
 solved-so s t (solved l a c) = gateway-one c
 

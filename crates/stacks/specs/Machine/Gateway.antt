@@ -1,4 +1,4 @@
--- The worked gateway of document 01: its eight result rows and its four stacks as one table, for every content of its slices.
+-- The worked gateway: its eight result rows and its four stacks as one table, for every content of its slices.
 use Prim.Native.Nat.{ℕ, _<_}
 use mathlib.Core.Path.{_≡_, refl, sym, _∙_, ap}
 use mathlib.Core.List.{List, [], _∷_}

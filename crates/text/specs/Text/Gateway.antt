@@ -1,4 +1,4 @@
--- The worked gateway's text of document 01, and that it means the worked gateway.
+-- The worked gateway's text, and that it means the worked gateway.
 use Prim.Native.Nat.{ℕ}
 use mathlib.Core.Path.{_≡_, refl}
 use mathlib.Core.List.{List, [], _∷_}

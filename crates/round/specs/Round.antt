@@ -1,15 +1,16 @@
--- One round of the equations by slices: from the sums of the nodes to the out sets of the edges. Definitions alone: their laws are in the
--- module below. A node has two sums: of all that arrives, in the list s, and of what arrives and passes its check, in the list q; a: for SURE,
--- MAY's sums of what passes.
+-- One round of the equations by slices: from the sums of the nodes to the out sets of the edges, and from these to the sums. Definitions alone:
+-- their laws are in the module below. A node has two sums: of all that arrives, in the list s, and of what arrives and passes its check, in the list q; a: for SURE,
+-- MAY's sums of what passes; w: for SURE, MAY's out sets.
 pub mod Laws
-use Prim.Native.Nat.{ℕ, _≤_, _<_}
+use Prim.Native.Nat.{ℕ, zero, suc, _≤_, _<_}
 use mathlib.Core.Path.{_≡_}
 use mathlib.Core.List.{List}
-use mathlib.Core.Bool.{Bool, true, false}
+use mathlib.Core.Bool.{Bool, true, false, cond}
 use lib.ListN.{length, getD}
 use Rattle.truth.specs.Truth.{All}
 use Rattle.graph.specs.Graph.{System}
-use Rattle.flow.specs.Walk.{carriedBy}
+use Rattle.flow.specs.Walk.{into, countsBy, carriedBy}
+use Rattle.sums.specs.Sums.{Begins}
 
 -- what one edge's out set needs of the slices
 pub record Carriable (kinds checks privileged grants froms tos ways a s q : List ℕ) (e : ℕ) : Type 0 where
@@ -56,4 +57,32 @@ module _ (kinds checks privileged grants froms tos ways : List ℕ) (y : System)
   -- what the slice of out sets holds after it, and whether it was stored
   pub data Spreads : Bool → List ℕ → Type 0 where
     spread : {out′ : List ℕ} → CanSpread → SpreadAll out′ → Spreads true out′
-    kept : (CanSpread → ⊥) → Spreads false out
+    unspread : (CanSpread → ⊥) → Spreads false out
+
+-- ---- from the out sets o to the sums
+
+-- the sums after the out sets of the edges below i arrived, one after the other
+module _ (kinds checks tos : List ℕ) (y : System) (w o : List ℕ) where
+  unfoldable pub insTo : ℕ → List ℕ → List ℕ
+  insTo zero s = s
+  insTo (suc e) s = into y (insTo e s) (getD tos e 0) (getD o e 0)
+
+  unfoldable pub pastTo : ℕ → List ℕ → List ℕ
+  pastTo zero q = q
+  pastTo (suc e) q = cond (countsBy kinds checks tos y w e (getD o e 0)) (into y (pastTo e q) (getD tos e 0) (getD o e 0)) (pastTo e q)
+
+-- every edge ends at a node, which 16 bits hold, and has both out sets
+pub record Sent (n checks wide out : ℕ) (tos : List ℕ) : Type 0 where
+  pub few : n ≤ 65535
+  pub checks-long : n ≤ checks
+  pub wide-long : length tos ≤ wide
+  pub out-long : length tos ≤ out
+  pub ends : All (λ e. getD tos e 0 < n) (length tos)
+
+-- what the sums of the nodes hold after it, and whether it was stored: they begin as the entry marks have it, and then all edges arrive
+module _ (y : System) (k : ℕ) (kinds checks entries grants tos w o s q : List ℕ) where
+  pub data Gathers : Bool → (s′ q′ : List ℕ) → Type 0 where
+    gathered : {s₀ q₀ : List ℕ} → Sent (length kinds) (length checks) (length w) (length o) tos → Begins y k (length kinds) checks entries grants s q true s₀ q₀
+        → Gathers true (insTo kinds checks tos y w o (length tos) s₀) (pastTo kinds checks tos y w o (length tos) q₀)
+    unsent : (Sent (length kinds) (length checks) (length w) (length o) tos → ⊥) → Gathers false s q
+    unbegun : {s₀ q₀ : List ℕ} → Begins y k (length kinds) checks entries grants s q false s₀ q₀ → Gathers false s q

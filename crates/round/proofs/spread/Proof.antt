@@ -2,7 +2,7 @@
 use borrow.Author.Tests.{not-true, not-false}
 use Rattle.truth.specs.Truth.Tests.{says-true, says-false}
 use Rattle.flow.specs.Walk.{systemOf}
-use Rattle.round.specs.Round.{CanSpread, spread, kept}
+use Rattle.round.specs.Round.{CanSpread, spread, unspread}
 use borrow.Author.Needs.{needs}
 use Rattle.round.proofs.spread.Statement.{statement}
 use Rattle.round.proofs.spread.Tie as tie
@@ -11,13 +11,13 @@ have-room-requires : tie.Need-have-room-requires
 have-room-requires c κs = search needs
 
 returns : tie.Need-returns
-returns c = kept (λ p. says-false (c .before .have-room .ensures) (not-true _ (c .if1 .taken)) (p .room))
+returns c = unspread (λ p. says-false (c .before .have-room .ensures) (not-true _ (c .if1 .taken)) (p .room))
 
 ends-low-requires : tie.Need-ends-low-requires
 ends-low-requires c κs = search needs
 
 returns-2 : tie.Need-returns-2
-returns-2 c = kept (λ p. says-false (c .before .ends-low .ensures) (not-true _ (c .if2 .taken)) (p .low))
+returns-2 c = unspread (λ p. says-false (c .before .ends-low .ensures) (not-true _ (c .if2 .taken)) (p .low))
 
 -- past both tests
 module _ (c : tie.Else2) where

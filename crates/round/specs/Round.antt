@@ -1,7 +1,8 @@
 -- One round of the equations by slices: from the sums of the nodes to the out sets of the edges, and from these to the sums. Definitions alone:
--- their laws are in the module below. A node has two sums: of all that arrives, in the list s, and of what arrives and passes its check, in the list q; a: for SURE,
+-- their laws are in the modules below. A node has two sums: of all that arrives, in the list s, and of what arrives and passes its check, in the list q; a: for SURE,
 -- MAY's sums of what passes; w: for SURE, MAY's out sets.
 pub mod Laws
+pub mod Gathered
 use Prim.Native.Nat.{ℕ, zero, suc, _≤_, _<_}
 use mathlib.Core.Path.{_≡_}
 use mathlib.Core.List.{List}

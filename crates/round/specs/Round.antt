@@ -45,11 +45,11 @@ pub record EndsLow (n : ℕ) (froms tos : List ℕ) : Type 0 where
   pub starts : All (λ e. getD froms e 0 < n) (length froms)
   pub ends : All (λ e. getD tos e 0 < n) (length tos)
 
-module _ (kinds checks privileged grants froms tos ways : List ℕ) (y : System) (a s q out : List ℕ) where
-  pub record CanSpread : Type 0 where
-    pub room : Room (length kinds) (length froms) (length checks) (length privileged) (length grants) (length tos) (length ways) (length a) (length s) (length q) (length out)
-    pub low : EndsLow (length kinds) froms tos
+pub record CanSpread (kinds checks privileged grants froms tos ways a s q out : List ℕ) : Type 0 where
+  pub room : Room (length kinds) (length froms) (length checks) (length privileged) (length grants) (length tos) (length ways) (length a) (length s) (length q) (length out)
+  pub low : EndsLow (length kinds) froms tos
 
+module _ (kinds checks privileged grants froms tos ways : List ℕ) (y : System) (a s q out : List ℕ) where
   -- every edge's out set is what it carries, the rest is as it was
   pub record SpreadAll (out′ : List ℕ) : Type 0 where
     pub sets : (e : ℕ) → e < length froms → getD out′ e 0 ≡ carriedBy kinds checks privileged grants froms tos ways y a s q e
@@ -57,8 +57,8 @@ module _ (kinds checks privileged grants froms tos ways : List ℕ) (y : System)
 
   -- what the slice of out sets holds after it, and whether it was stored
   pub data Spreads : Bool → List ℕ → Type 0 where
-    spread : {out′ : List ℕ} → CanSpread → SpreadAll out′ → Spreads true out′
-    unspread : (CanSpread → ⊥) → Spreads false out
+    spread : {out′ : List ℕ} → CanSpread kinds checks privileged grants froms tos ways a s q out → SpreadAll out′ → Spreads true out′
+    unspread : (CanSpread kinds checks privileged grants froms tos ways a s q out → ⊥) → Spreads false out
 
 -- ---- from the out sets o to the sums
 
@@ -73,7 +73,7 @@ module _ (kinds checks tos : List ℕ) (y : System) (w o : List ℕ) where
   pastTo (suc e) q = cond (countsBy kinds checks tos y w e (getD o e 0)) (into y (pastTo e q) (getD tos e 0) (getD o e 0)) (pastTo e q)
 
 -- every edge ends at a node, which 16 bits hold, and has both out sets
-pub record Sent (n checks wide out : ℕ) (tos : List ℕ) : Type 0 where
+pub record Gatherable (n checks wide out : ℕ) (tos : List ℕ) : Type 0 where
   pub few : n ≤ 65535
   pub checks-long : n ≤ checks
   pub wide-long : length tos ≤ wide
@@ -83,7 +83,7 @@ pub record Sent (n checks wide out : ℕ) (tos : List ℕ) : Type 0 where
 -- what the sums of the nodes hold after it, and whether it was stored: they begin as the entry marks have it, and then all edges arrive
 module _ (y : System) (k : ℕ) (kinds checks entries grants tos w o s q : List ℕ) where
   pub data Gathers : Bool → (s′ q′ : List ℕ) → Type 0 where
-    gathered : {s₀ q₀ : List ℕ} → Sent (length kinds) (length checks) (length w) (length o) tos → Begins y k (length kinds) checks entries grants s q true s₀ q₀
+    gathered : {s₀ q₀ : List ℕ} → Gatherable (length kinds) (length checks) (length w) (length o) tos → Begins y k (length kinds) checks entries grants s q true s₀ q₀
         → Gathers true (insTo kinds checks tos y w o (length tos) s₀) (pastTo kinds checks tos y w o (length tos) q₀)
-    unsent : (Sent (length kinds) (length checks) (length w) (length o) tos → ⊥) → Gathers false s q
+    unsent : (Gatherable (length kinds) (length checks) (length w) (length o) tos → ⊥) → Gathers false s q
     unbegun : {s₀ q₀ : List ℕ} → Begins y k (length kinds) checks entries grants s q false s₀ q₀ → Gathers false s q

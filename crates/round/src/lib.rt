@@ -5,7 +5,7 @@ ghost use Prim.Native.Nat.{ℕ, _≤_, _<_};
 ghost use lib.ListN.{length, getD};
 ghost use Rattle.truth.specs.Truth.{Says, All};
 ghost use Rattle.flow.specs.Walk.{systemOf, carriedBy};
-ghost use Rattle.round.specs.Round.{Room, EndsLow, Carriable, CanSpread, SpreadAll, Spreads, insTo, pastTo, Sent, Gathers};
+ghost use Rattle.round.specs.Round.{Room, EndsLow, Carriable, CanSpread, SpreadAll, Spreads, insTo, pastTo, Gatherable, Gathers};
 
 // The loop has no early end, so that it is compiled to steps of several places.
 fn all_below(list: &[u16], n: u16) -> bool
@@ -124,7 +124,7 @@ fn spread_all(
     ins: &[u64],
     past: &[u64],
 )
-    requires { ⌜ CanSpread (now kinds) (now checks) (now privileged) (now grants) (now froms) (now tos) (now ways) (systemOf sure) (now any) (now ins) (now past) (now out) ⌝ }
+    requires { ⌜ CanSpread (now kinds) (now checks) (now privileged) (now grants) (now froms) (now tos) (now ways) (now any) (now ins) (now past) (now out) ⌝ }
     ensures { λ r. ⌜ SpreadAll (now (kinds .entry)) (now (checks .entry)) (now (privileged .entry)) (now (grants .entry)) (now (froms .entry)) (now (tos .entry)) (now (ways .entry)) (systemOf sure) (now (any .entry)) (now (ins .entry)) (now (past .entry)) (now (out .entry)) (now (out .exit)) ⌝ }
 {
     let mut e = 0;
@@ -203,7 +203,7 @@ pub fn spread(
 
 // Whether every edge ends at a node below n and has both out sets, by lengths.
 fn can_gather(n: usize, checks: usize, wide: usize, out: usize, tos: &[u16]) -> bool
-    ensures { λ r. ⌜ Says (Sent n checks wide out (now (tos .entry))) r ⌝ }
+    ensures { λ r. ⌜ Says (Gatherable n checks wide out (now (tos .entry))) r ⌝ }
 {
     if worklist::LARGEST < n {
         return false;
@@ -231,7 +231,7 @@ fn gather_all(
     wide: &[u64],
     out: &[u64],
 )
-    requires { ⌜ Sent (length (now kinds)) (length (now checks)) (length (now wide)) (length (now out)) (now tos) ⌝ }
+    requires { ⌜ Gatherable (length (now kinds)) (length (now checks)) (length (now wide)) (length (now out)) (now tos) ⌝ }
     ensures { λ r. ⌜ (now (ins .exit) ≡ insTo (now (kinds .entry)) (now (checks .entry)) (now (tos .entry)) (systemOf sure) (now (wide .entry)) (now (out .entry)) (length (now (tos .entry))) (now (ins .entry))) × (now (past .exit) ≡ pastTo (now (kinds .entry)) (now (checks .entry)) (now (tos .entry)) (systemOf sure) (now (wide .entry)) (now (out .entry)) (length (now (tos .entry))) (now (past .entry))) ⌝ }
 {
     let mut e = 0;

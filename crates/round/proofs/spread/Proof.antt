@@ -1,7 +1,6 @@
 -- Where a test fails nothing is stored; else the slices have room, the ends are nodes, and the loop stores all.
 use borrow.Author.Tests.{not-true, not-false}
 use Rattle.truth.specs.Truth.Tests.{says-true, says-false}
-use Rattle.flow.specs.Walk.{systemOf}
 use Rattle.round.specs.Round.{CanSpread, spread, unspread}
 use borrow.Author.Needs.{needs}
 use Rattle.round.proofs.spread.Statement.{statement}
@@ -24,7 +23,7 @@ module _ (c : tie.Else2) where
   abbrev start : tie.Start
   start = c .before .before .before .before .before .before .before .before .before .before .before .before .before .before .before
 
-  can : CanSpread (start .args .kinds .now) (start .args .checks .now) (start .args .privileged .now) (start .args .grants .now) (start .args .froms .now) (start .args .tos .now) (start .args .ways .now) (systemOf (start .args .sure)) (start .args .any .now) (start .args .ins .now) (start .args .past .now) (start .args .out .now)
+  can : CanSpread (start .args .kinds .now) (start .args .checks .now) (start .args .privileged .now) (start .args .grants .now) (start .args .froms .now) (start .args .tos .now) (start .args .ways .now) (start .args .any .now) (start .args .ins .now) (start .args .past .now) (start .args .out .now)
   can = record {
     room = says-true (c .before .before .before .have-room .ensures) (not-false _ (c .before .before .if1 .left));
     low = says-true (c .before .ends-low .ensures) (not-false _ (c .if2 .left));

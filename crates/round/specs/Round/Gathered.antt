@@ -20,7 +20,7 @@ use Rattle.flow.specs.Walk.{merge, judgedNum, into, countsBy, counts, Toward, P
 use Rattle.flow.specs.Walk.Order.{toward-refl, toward-trans, merge-left, merge-right, merge-both}
 use Rattle.flow.specs.Walk.Sums.{set-holds, edge-toward, edge-past, begun-below, begun-past-below, begun-good}
 use Rattle.sums.specs.Sums.{Room, begun, kept}
-use Rattle.round.specs.Round.{insTo, pastTo, Sent, Gathers, gathered, unsent, unbegun}
+use Rattle.round.specs.Round.{insTo, pastTo, Gatherable, Gathers, gathered, unsent, unbegun}
 
 -- ---- the sums of all that arrives, while edges arrive
 
@@ -209,7 +209,7 @@ module _ (g : Graph) (acc : Acceptable g) (w o s q : List ℕ) (long : g .size .
 -- ---- what the call stores of an accepted graph
 
 module _ (g : Graph) (acc : Acceptable g) (y : System) (w o s q : List ℕ) (ls : g .size .n ≤ length s) (lq : g .size .n ≤ length q) (lw : g .size .m ≤ length w) (lo : g .size .m ≤ length o) where
-  can-send : Sent (length (g .nodes .kinds)) (length (g .nodes .checks)) (length w) (length o) (g .edges .tos)
+  can-send : Gatherable (length (g .nodes .kinds)) (length (g .nodes .checks)) (length w) (length o) (g .edges .tos)
   can-send =
       let n = acc .shape .nodes in
       record {

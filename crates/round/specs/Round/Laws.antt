@@ -9,12 +9,12 @@ use lib.ListN.{length, getD}
 use Rattle.graph.specs.Graph.{Graph, Acceptable, System}
 use Rattle.flow.specs.Walk.{countsBy, carried}
 use Rattle.sums.specs.Sums.{Delivers, Begins, begun, kept}
-use Rattle.round.specs.Round.{Carriable, CanSpread, SpreadAll, Spreads, spread, unspread, insTo, pastTo, Sent, Gathers, gathered, unbegun}
+use Rattle.round.specs.Round.{Carriable, CanSpread, SpreadAll, Spreads, spread, unspread, insTo, pastTo, Gatherable, Gathers, gathered, unbegun}
 use Rattle.truth.specs.Truth.Bools.{clash}
 
-pub carriable : (kinds checks privileged grants froms tos ways : List ℕ) (y : System) (a s q out : List ℕ) → CanSpread kinds checks privileged grants froms tos ways y a s q out
+pub carriable : (kinds checks privileged grants froms tos ways a s q out : List ℕ) → CanSpread kinds checks privileged grants froms tos ways a s q out
     → (e : ℕ) → e < length froms → Carriable kinds checks privileged grants froms tos ways a s q e
-carriable kinds checks privileged grants froms tos ways y a s q out h e l =
+carriable kinds checks privileged grants froms tos ways a s q out h e l =
     let r = h .room in
     let f = h .low .starts e l in
     let t = h .low .ends e (omega (arith, r .tos-long)) in
@@ -33,7 +33,7 @@ carriable kinds checks privileged grants froms tos ways y a s q out h e l =
     }
 
 module _ (g : Graph) (y : System) (a s q out : List ℕ) (acc : Acceptable g) (lo : g .size .m ≤ length out) (la : g .size .n ≤ length a) (ls : g .size .n ≤ length s) (lq : g .size .n ≤ length q) where
-  can-spread : CanSpread (g .nodes .kinds) (g .nodes .checks) (g .nodes .privileged) (g .nodes .grants) (g .edges .froms) (g .edges .tos) (g .edges .ways) y a s q out
+  can-spread : CanSpread (g .nodes .kinds) (g .nodes .checks) (g .nodes .privileged) (g .nodes .grants) (g .edges .froms) (g .edges .tos) (g .edges .ways) a s q out
   can-spread =
       let n = acc .shape .nodes in
       let e = acc .shape .edges in
@@ -81,7 +81,7 @@ module _ (y : System) (k : ℕ) (kinds checks entries grants tos w o s q : List 
   unbegun-by e (begun _ _) = clash refl e
   unbegun-by e (kept d) = unbegun (kept d)
 
-  pub gathered-by : {r : Bool} {s₀ q₀ : List ℕ} (s′ q′ : List ℕ) → Sent (length kinds) (length checks) (length w) (length o) tos → r ≡ true
+  pub gathered-by : {r : Bool} {s₀ q₀ : List ℕ} (s′ q′ : List ℕ) → Gatherable (length kinds) (length checks) (length w) (length o) tos → r ≡ true
       → Begins y k (length kinds) checks entries grants s q r s₀ q₀
       → (s′ ≡ insTo kinds checks tos y w o (length tos) s₀) × (q′ ≡ pastTo kinds checks tos y w o (length tos) q₀)
       → Gathers y k kinds checks entries grants tos w o s q true s′ q′

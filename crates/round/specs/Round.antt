@@ -1,6 +1,6 @@
 -- One round of the equations by slices: from the sums of the nodes to the out sets of the edges, and from these to the sums. Definitions alone:
--- their laws are in the modules below. A node has two sums: of all that arrives, in the list s, and of what arrives and passes its check, in the list q; a: for SURE,
--- MAY's sums of what passes; w: for SURE, MAY's out sets.
+-- their laws are in the modules below. A node has two sums: of all that arrives, in the list s, and of what arrives and passes its check, in the
+-- list q; a: for SURE, MAY's sums of what passes; w: for SURE, MAY's out sets.
 pub mod Laws
 pub mod Gathered
 use Prim.Native.Nat.{ℕ, zero, suc, _≤_, _<_}
@@ -39,7 +39,7 @@ pub record Room (n m checks privileged grants tos ways a s q out : ℕ) : Type 0
   pub ways-long : m ≤ ways
   pub out-long : m ≤ out
 
--- all ends of edges are nodes below n, whose numbers 16 bits hold
+-- all ends of edges are nodes below n, and 16 bits hold n
 pub record EndsLow (n : ℕ) (froms tos : List ℕ) : Type 0 where
   pub few : n ≤ 65535
   pub starts : All (λ e. getD froms e 0 < n) (length froms)
@@ -63,16 +63,16 @@ module _ (kinds checks privileged grants froms tos ways : List ℕ) (y : System)
 -- ---- from the out sets o to the sums
 
 -- the sums after the out sets of the edges below i arrived, one after the other
-module _ (kinds checks tos : List ℕ) (y : System) (w o : List ℕ) where
-  unfoldable pub insTo : ℕ → List ℕ → List ℕ
-  insTo zero s = s
-  insTo (suc e) s = into y (insTo e s) (getD tos e 0) (getD o e 0)
+unfoldable pub insTo : (tos : List ℕ) (y : System) (o : List ℕ) → ℕ → List ℕ → List ℕ
+insTo tos y o zero s = s
+insTo tos y o (suc e) s = into y (insTo tos y o e s) (getD tos e 0) (getD o e 0)
 
+module _ (kinds checks tos : List ℕ) (y : System) (w o : List ℕ) where
   unfoldable pub pastTo : ℕ → List ℕ → List ℕ
   pastTo zero q = q
   pastTo (suc e) q = cond (countsBy kinds checks tos y w e (getD o e 0)) (into y (pastTo e q) (getD tos e 0) (getD o e 0)) (pastTo e q)
 
--- every edge ends at a node, which 16 bits hold, and has both out sets
+-- every edge ends at a node below n, which 16 bits hold, and has both out sets
 pub record Gatherable (n checks wide out : ℕ) (tos : List ℕ) : Type 0 where
   pub few : n ≤ 65535
   pub checks-long : n ≤ checks
@@ -84,6 +84,6 @@ pub record Gatherable (n checks wide out : ℕ) (tos : List ℕ) : Type 0 where
 module _ (y : System) (k : ℕ) (kinds checks entries grants tos w o s q : List ℕ) where
   pub data Gathers : Bool → (s′ q′ : List ℕ) → Type 0 where
     gathered : {s₀ q₀ : List ℕ} → Gatherable (length kinds) (length checks) (length w) (length o) tos → Begins y k (length kinds) checks entries grants s q true s₀ q₀
-        → Gathers true (insTo kinds checks tos y w o (length tos) s₀) (pastTo kinds checks tos y w o (length tos) q₀)
+        → Gathers true (insTo tos y o (length tos) s₀) (pastTo kinds checks tos y w o (length tos) q₀)
     unsent : (Gatherable (length kinds) (length checks) (length w) (length o) tos → ⊥) → Gathers false s q
     unbegun : {s₀ q₀ : List ℕ} → Begins y k (length kinds) checks entries grants s q false s₀ q₀ → Gathers false s q

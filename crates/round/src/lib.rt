@@ -232,7 +232,7 @@ fn gather_all(
     out: &[u64],
 )
     requires { ⌜ Gatherable (length (now kinds)) (length (now checks)) (length (now wide)) (length (now out)) (now tos) ⌝ }
-    ensures { λ r. ⌜ (now (ins .exit) ≡ insTo (now (kinds .entry)) (now (checks .entry)) (now (tos .entry)) (systemOf sure) (now (wide .entry)) (now (out .entry)) (length (now (tos .entry))) (now (ins .entry))) × (now (past .exit) ≡ pastTo (now (kinds .entry)) (now (checks .entry)) (now (tos .entry)) (systemOf sure) (now (wide .entry)) (now (out .entry)) (length (now (tos .entry))) (now (past .entry))) ⌝ }
+    ensures { λ r. ⌜ (now (ins .exit) ≡ insTo (now (tos .entry)) (systemOf sure) (now (out .entry)) (length (now (tos .entry))) (now (ins .entry))) × (now (past .exit) ≡ pastTo (now (kinds .entry)) (now (checks .entry)) (now (tos .entry)) (systemOf sure) (now (wide .entry)) (now (out .entry)) (length (now (tos .entry))) (now (past .entry))) ⌝ }
 {
     let mut e = 0;
     while e < tos.len() {

@@ -12,7 +12,7 @@ use Rattle.round.proofs.gather_all.Tie as tie
 
 abbrev Inv-loop : tie.InvT-loop
 Inv-loop ins₀ past₀ sure kinds checks tos wide out e₀ ins past e =
-    (e ≤ length tos) × (ins ≡ insTo kinds checks tos (systemOf sure) wide out e ins₀) × (past ≡ pastTo kinds checks tos (systemOf sure) wide out e past₀) × (length ins ≡ length ins₀) × (length past ≡ length past₀)
+    (e ≤ length tos) × (ins ≡ insTo tos (systemOf sure) out e ins₀) × (past ≡ pastTo kinds checks tos (systemOf sure) wide out e past₀) × (length ins ≡ length ins₀) × (length past ≡ length past₀)
 
 abbrev μ-loop : tie.MeasureT-loop
 μ-loop ins₀ past₀ sure kinds checks tos wide out e₀ ins past e = length tos - e

@@ -28,9 +28,9 @@ use Rattle.round.specs.Round.{insTo, pastTo, Gatherable, Gathers, gather
 into-keeps : (y : System) (l : List ℕ) (b v n p : ℕ) → b < length l → Toward y (has (getD l n 0) p) (has (getD (into y l b v) n 0) p)
 into-keeps y l b v n p h = set-holds (λ (m x : ℕ). Toward y (has (getD l m 0) p) (has x p)) l b _ h (merge-left (getD l b 0) v p y) n (toward-refl y _)
 
-module _ (kinds checks tos : List ℕ) (y : System) (w o s : List ℕ) (m : ℕ) (ends : (e : ℕ) → e < m → getD tos e 0 < length s) where
+module _ (tos : List ℕ) (y : System) (o s : List ℕ) (m : ℕ) (ends : (e : ℕ) → e < m → getD tos e 0 < length s) where
   abbrev ins : ℕ → List ℕ
-  ins i = insTo kinds checks tos y w o i s
+  ins i = insTo tos y o i s
 
   ins-long : (i : ℕ) → length (ins i) ≡ length s
   unfolding insTo
@@ -70,7 +70,7 @@ module _ (kinds checks tos : List ℕ) (y : System) (w o s : List ℕ) (m : ℕ)
 
 module _ (g : Graph) (acc : Acceptable g) (w o s q : List ℕ) (long : g .size .n ≤ length s) where
   abbrev sums : System → List ℕ
-  sums y = insTo (g .nodes .kinds) (g .nodes .checks) (g .edges .tos) y w o (g .size .m) s
+  sums y = insTo (g .edges .tos) y o (g .size .m) s
 
   ends : (e : ℕ) → e < g .size .m → getD (g .edges .tos) e 0 < length s
   ends e l = omega (arith, (acc .edges e l) .to-node)
@@ -78,17 +78,17 @@ module _ (g : Graph) (acc : Acceptable g) (w o s q : List ℕ) (long : g .size .
   module _ (y : System) (b : Begun y (g .size .k) (g .size .n) (g .nodes .checks) (g .nodes .entries) (g .nodes .grants) s q) (n p : ℕ) (u : n < g .size .n) (k : p < g .size .k) where
     toward : Toward y (has (getD (sums y) n 0) p) (inSet g y (held o) n p)
     toward =
-        ins-below (g .nodes .kinds) (g .nodes .checks) (g .edges .tos) y w o s (g .size .m) ends (g .size .m) n p (inSet g y (held o) n p) (omega arith)
+        ins-below (g .edges .tos) y o s (g .size .m) ends (g .size .m) n p (inSet g y (held o) n p) (omega arith)
         (begun-below g y acc w s q b (held o) n p u k)
         (λ e l c. rw c at (edge-toward g e p l k y (held o)))
 
     by-entry : getD (g .nodes .entries) n 0 ≡ 1 → Toward y (has (getD (g .nodes .grants) n 0) p) (has (getD (sums y) n 0) p)
     by-entry e =
         toward-trans y _ _ _ (begun-good g y acc w s q b .s-entry n p u k e)
-        (ins-keeps (g .nodes .kinds) (g .nodes .checks) (g .edges .tos) y w o s (g .size .m) ends (g .size .m) n p (omega arith))
+        (ins-keeps (g .edges .tos) y o s (g .size .m) ends (g .size .m) n p (omega arith))
 
     by-edges : (e : ℕ) → e < g .size .m → toOf g e ≡ n → Toward y (has (getD o e 0) p) (has (getD (sums y) n 0) p)
-    by-edges e l c = rw c at (ins-gets (g .nodes .kinds) (g .nodes .checks) (g .edges .tos) y w o s (g .size .m) ends (g .size .m) e p l (omega arith))
+    by-edges e l c = rw c at (ins-gets (g .edges .tos) y o s (g .size .m) ends (g .size .m) e p l (omega arith))
 
   pub gathered-in : (y : System) → Begun y (g .size .k) (g .size .n) (g .nodes .checks) (g .nodes .entries) (g .nodes .grants) s q
       → (n p : ℕ) → n < g .size .n → p < g .size .k → has (getD (sums y) n 0) p ≡ inSet g y (held o) n p
@@ -232,7 +232,7 @@ module _ (g : Graph) (acc : Acceptable g) (y : System) (w o s q : List ℕ) (ls 
     pub s-long : length s₀ ≡ length s
     pub q-long : length q₀ ≡ length q
     pub first : Begun y (g .size .k) (g .size .n) (g .nodes .checks) (g .nodes .entries) (g .nodes .grants) s₀ q₀
-    pub ins-is : s′ ≡ insTo (g .nodes .kinds) (g .nodes .checks) (g .edges .tos) y w o (g .size .m) s₀
+    pub ins-is : s′ ≡ insTo (g .edges .tos) y o (g .size .m) s₀
     pub past-is : q′ ≡ pastTo (g .nodes .kinds) (g .nodes .checks) (g .edges .tos) y w o (g .size .m) q₀
 
   pub gathers-stores : {r : Bool} {s′ q′ : List ℕ} → Gathers y (g .size .k) (g .nodes .kinds) (g .nodes .checks) (g .nodes .entries) (g .nodes .grants) (g .edges .tos) w o s q r s′ q′ → Stores s′ q′

@@ -68,8 +68,8 @@ module _ (kinds checks tos : List ℕ) (y : System) (w o s₀ q₀ : List ℕ) w
   -- one edge more arrives
   pub gather-more : (e : ℕ) (counted told : Bool) (s q s′ q′ : List ℕ) → counted ≡ countsBy kinds checks tos y w e (getD o e 0)
       → Delivers y s q (getD tos e 0) (getD o e 0) counted s′ q′ told
-      → s ≡ insTo kinds checks tos y w o e s₀ → q ≡ pastTo kinds checks tos y w o e q₀
-      → (s′ ≡ insTo kinds checks tos y w o (e + 1) s₀) × (q′ ≡ pastTo kinds checks tos y w o (e + 1) q₀)
+      → s ≡ insTo tos y o e s₀ → q ≡ pastTo kinds checks tos y w o e q₀
+      → (s′ ≡ insTo tos y o (e + 1) s₀) × (q′ ≡ pastTo kinds checks tos y w o (e + 1) q₀)
   unfolding insTo pastTo
   gather-more e counted told s q s′ q′ c d i j =
       (rw (add-one e, ← i) (d .ins), rw (add-one e, ← j, ← c) (d .past))
@@ -83,6 +83,6 @@ module _ (y : System) (k : ℕ) (kinds checks entries grants tos w o s q : List 
 
   pub gathered-by : {r : Bool} {s₀ q₀ : List ℕ} (s′ q′ : List ℕ) → Gatherable (length kinds) (length checks) (length w) (length o) tos → r ≡ true
       → Begins y k (length kinds) checks entries grants s q r s₀ q₀
-      → (s′ ≡ insTo kinds checks tos y w o (length tos) s₀) × (q′ ≡ pastTo kinds checks tos y w o (length tos) q₀)
+      → (s′ ≡ insTo tos y o (length tos) s₀) × (q′ ≡ pastTo kinds checks tos y w o (length tos) q₀)
       → Gathers y k kinds checks entries grants tos w o s q true s′ q′
   gathered-by s′ q′ h e b i = rw (i .0, i .1) (gathered h (rw e at b))

@@ -2,23 +2,25 @@
 use Prim.Native.Nat.{ℕ, zero, suc, _≤_, _<_, _^_}
 use mathlib.Core.Path.{_≡_, refl, sym, subst, _∙_}
 use mathlib.Core.List.{List}
-use mathlib.Core.Bool.{Bool, true, false, cond, _&&_}
-use mathlib.Core.Logic.{_↔_}
+use mathlib.Core.Bool.{Bool, true, false, cond, _&&_, _||_}
+use mathlib.Core.Logic.{_↔_, ⊎-elim}
 use native.Mathlib.Omega.{arith}
 use native.Mathlib.Decide.{ℕ-discrete}
 use lib.ListN.{length, getD, set, length-set}
 use lib.Seq.{getD-set-same}
-use borrow.Author.Tests.{eqb-true}
-use lib.Dec.{eqb}
-use Rattle.truth.specs.Truth.Bools.{same-bool, both}
+use borrow.Author.Tests.{eqb-true, eqb-false, lt-ltb}
+use lib.Dec.{eqb, ltb}
+use Rattle.truth.specs.Truth.Bools.{same-bool, by-split, clash, both, right, either, or-left, or-right}
 use Rattle.sets.specs.Sets.{has}
 use Rattle.sets.specs.Sets.Members.{below-members}
-use Rattle.graph.specs.Graph.{Graph, Acceptable, System, may, sure, Outs, Arrival, arriving, inSet, pastSet, isCheck, check, held}
+use Rattle.graph.specs.Graph.{Graph, Acceptable, System, may, sure, Outs, Arrival, arriving, inSet, pastSet, outSet, outRule, isCheck, check, from, held}
 use Rattle.graph.specs.Graph.Arrivals.{Arrives, by-mark, by-edge, arriving-mark, arriving-edge}
-use Rattle.graph.specs.Graph.Edges.{in-may, in-sure, past-may}
-use Rattle.flow.specs.Walk.{merge, judgedNum, into, countsBy, counts, Toward, PastBelow, Begun, toOf}
+use Rattle.graph.specs.Graph.Edges.{in-may, in-sure, past-may, past-sure}
+use Rattle.graph.specs.Graph.Rule.{out-by-rule, out-rule-mono}
+use Rattle.graph.specs.Graph.Rules.{from-low, check-low}
+use Rattle.flow.specs.Walk.{merge, pastNum, judgedNum, carried, AnyPasses, into, countsBy, counts, Toward, PastBelow, Begun, toOf}
 use Rattle.flow.specs.Walk.Order.{toward-refl, toward-trans, merge-left, merge-right, merge-both}
-use Rattle.flow.specs.Walk.Sums.{set-holds, edge-toward, edge-past, begun-below, begun-past-below, begun-good}
+use Rattle.flow.specs.Walk.Sums.{has-carried, has-past-sure, set-holds, edge-toward, edge-past, begun-below, begun-past-below, begun-good}
 use Rattle.sums.specs.Sums.{Room, begun, kept}
 use Rattle.round.specs.Round.{insTo, pastTo, Gatherable, Gathers, gathered, unsent, unbegun}
 
@@ -254,3 +256,78 @@ module _ (g : Graph) (acc : Acceptable g) (y : System) (w o s q : List ℕ) (ls 
   gathers-in f n p u k =
       let t = gathers-stores f in
       rw (t .ins-is) (gathered-in g acc w o (t .s₀) (t .q₀) (omega (arith, t .s-long)) y (t .first) n p u k)
+
+-- ---- one round: what the edges carry by gathered sums is what the equations give of the out sets
+
+module _ (g : Graph) (acc : Acceptable g) (w o s q a : List ℕ) (ls : g .size .n ≤ length s) (lq : g .size .n ≤ length q) (lw : g .size .m ≤ length w) (lo : g .size .m ≤ length o)
+    (few : (e : ℕ) → e < g .size .m → getD o e 0 < 2 ^ g .size .k) where
+  pub may-round : {r : Bool} {s′ q′ : List ℕ} → Gathers may (g .size .k) (g .nodes .kinds) (g .nodes .checks) (g .nodes .entries) (g .nodes .grants) (g .edges .tos) w o s q r s′ q′
+      → (e p : ℕ) → e < g .size .m → p < g .size .k → has (carried g may a s′ q′ e) p ≡ outSet g (held o) may (held o) e p
+  unfolding pastNum
+  may-round {s′ = s′} {q′ = q′} f e p l k =
+      has-carried g may a s′ q′ e p ∙ same-bool _ _ (out-rule-mono g e p _ _ _ _ (λ t. sym in-is ∙ t) (λ i t. sym (past-is i) ∙ t)) (out-rule-mono g e p _ _ _ _ (λ t. in-is ∙ t) (λ i t. past-is i ∙ t))
+      ∙ sym (out-by-rule g (held o) may (held o) e p)
+    where
+      n : ℕ
+      n = from g e
+
+      low : n < g .size .n
+      low = from-low g acc e l
+
+      t : Stores g acc may w o s q ls lq lw lo s′ q′
+      t = gathers-stores g acc may w o s q ls lq lw lo f
+
+      in-is : has (getD s′ n 0) p ≡ inSet g may (held o) n p
+      in-is = gathers-in g acc may w o s q ls lq lw lo f n p low k
+
+      past-is : isCheck g n ≡ true → has (getD q′ n 0) p ≡ pastSet g (held o) may (held o) n p
+      past-is i = rw (t .past-is) (gathered-past g acc w o (t .s₀) (t .q₀) (omega (arith, t .q-long)) few n p low k i (t .first))
+
+  -- a says of every check whether anything passes it, by MAY's out sets w
+  pub sure-round : AnyPasses g sure w a → {r : Bool} {s′ q′ : List ℕ} → Gathers sure (g .size .k) (g .nodes .kinds) (g .nodes .checks) (g .nodes .entries) (g .nodes .grants) (g .edges .tos) w o s q r s′ q′
+      → (e p : ℕ) → e < g .size .m → p < g .size .k → has (carried g sure a s′ q′ e) p ≡ outSet g (held w) sure (held o) e p
+  sure-round any {s′ = s′} {q′ = q′} f e p l k =
+      has-carried g sure a s′ q′ e p ∙ same-bool _ _ (out-rule-mono g e p _ _ _ _ (λ t. sym in-is ∙ t) past-to) (out-rule-mono g e p _ _ _ _ (λ t. in-is ∙ t) past-from)
+      ∙ sym (out-by-rule g (held w) sure (held o) e p)
+    where
+      n : ℕ
+      n = from g e
+
+      c : ℕ
+      c = getD (g .nodes .checks) n 0
+
+      low : n < g .size .n
+      low = from-low g acc e l
+
+      t : Stores g acc sure w o s q ls lq lw lo s′ q′
+      t = gathers-stores g acc sure w o s q ls lq lw lo f
+
+      in-is : has (getD s′ n 0) p ≡ inSet g sure (held o) n p
+      in-is = gathers-in g acc sure w o s q ls lq lw lo f n p low k
+
+      held-is : isCheck g n ≡ true → (has (getD q′ n 0) p ≡ true) ↔ ((x : Arrival) → Arrives g n x → arriving g (held w) n x (check g n) ≡ true → arriving g (held o) n x p ≡ true)
+      held-is i = rw (t .past-is) (gathered-held g acc w o (t .s₀) (t .q₀) (omega (arith, t .q-long)) few n p low k i (t .first))
+
+      past-to : isCheck g n ≡ true → has (pastNum sure c (getD q′ n 0) (has (getD a n 0) c)) p ≡ true → pastSet g (held w) sure (held o) n p ≡ true
+      past-to i v = by (has (getD a n 0) c) refl (sym (has-past-sure c (getD q′ n 0) p (has (getD a n 0) c)) ∙ v)
+        where
+          by : (b : Bool) → has (getD a n 0) c ≡ b → cond b (has (getD q′ n 0) p || (ltb c 64 && eqb c p)) false ≡ true → pastSet g (held w) sure (held o) n p ≡ true
+          by false z v = clash v refl
+          by true z v =
+              past-sure g (held w) (held o) n p .1
+              (record {
+                passing = any n low i .0 z;
+                held-by-all = λ d. ⊎-elim (held-is i .0) (λ h. absurd (d (sym (eqb-true c p (right (ltb c 64) (eqb c p) h))))) (either (has (getD q′ n 0) p) (ltb c 64 && eqb c p) v);
+              })
+
+      past-from : isCheck g n ≡ true → pastSet g (held w) sure (held o) n p ≡ true → has (pastNum sure c (getD q′ n 0) (has (getD a n 0) c)) p ≡ true
+      past-from i v =
+          let r = past-sure g (held w) (held o) n p .0 v in
+          let own : check g n ≡ c = refl in
+          let passes : has (getD a n 0) c ≡ true = rw own at (any n low i .1 (r .passing)) in
+          let c-low : c < g .size .k = rw own at (check-low g acc n low i) in
+          has-past-sure c (getD q′ n 0) p (has (getD a n 0) c)
+          ∙ rw passes
+          (by-split (eqb c p)
+          (λ h. or-right (has (getD q′ n 0) p) (both (lt-ltb c 64 (omega (arith, acc .shape .ranges .k-high))) h))
+          (λ h. or-left _ (held-is i .1 (r .held-by-all (λ z. eqb-false c p h (sym own ∙ sym z))))))

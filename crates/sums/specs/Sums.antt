@@ -34,6 +34,8 @@ pub record Room (n ins past checks entries grants : ℕ) : Type 0 where
 
 -- the sums of the nodes below n begin, the rest is as it was
 pub record BegunAll (y : System) (k n : ℕ) (checks entries grants s q s′ q′ : List ℕ) : Type 0 where
+  pub ins-long : length s′ ≡ length s
+  pub past-long : length q′ ≡ length q
   pub first : Begun y k n checks entries grants s′ q′
   pub ins-rest : (i : ℕ) → n ≤ i → getD s′ i 0 ≡ getD s i 0
   pub past-rest : (i : ℕ) → n ≤ i → getD q′ i 0 ≡ getD q i 0

@@ -146,6 +146,29 @@ module _ (g : Graph) where
   start-past sure w z n p h k = λ _. start-first sure (g .size .k) p true h k refl
 
   module _ (y : System) (acc : Acceptable g) (w s q : List ℕ) (b : Begun y (g .size .k) (g .size .n) (g .nodes .checks) (g .nodes .entries) (g .nodes .grants) s q) where
+    low : (t : Bool) (n : ℕ) → n < g .size .n → cond t (getD (g .nodes .grants) n 0) (start y (g .size .k)) < 2 ^ g .size .k
+    low true n l = grants-lt acc n l
+    low false n l = start-lt y (g .size .k)
+
+    below : (z : Outs) (n p : ℕ) → p < g .size .k → (t : Bool) → eqb (getD (g .nodes .entries) n 0) 1 ≡ t
+        → Toward y (has (cond t (getD (g .nodes .grants) n 0) (start y (g .size .k))) p) (inSet g y z n p)
+    below z n p k true e = mark-toward y z n p (eqb-true _ 1 e)
+    below z n p k false e = start-first y (g .size .k) p (inSet g y z n p) (acc .shape .ranges .k-high) k
+
+    past-below : (z : Outs) (n p : ℕ) → p < g .size .k → (t : Bool) → eqb (getD (g .nodes .entries) n 0) 1 && has (getD (g .nodes .grants) n 0) (getD (g .nodes .checks) n 0) ≡ t
+        → PastBelow g y w z n p (has (cond t (getD (g .nodes .grants) n 0) (start y (g .size .k))) p)
+    past-below z n p k true e = mark-past y w z n p (eqb-true _ 1 (left _ _ e)) (right (eqb (getD (g .nodes .entries) n 0) 1) _ e)
+    past-below z n p k false e = start-past y w z n p (acc .shape .ranges .k-high) k
+
+    -- they go no further than any out sets allow
+    pub begun-below : (z : Outs) (n p : ℕ) → n < g .size .n → p < g .size .k → Toward y (has (getD s n 0) p) (inSet g y z n p)
+    unfolding startIns
+    begun-below z n p l k = rw (b .ins n l) (below z n p k (eqb (getD (g .nodes .entries) n 0) 1) refl)
+
+    pub begun-past-below : (z : Outs) (n p : ℕ) → n < g .size .n → p < g .size .k → PastBelow g y w z n p (has (getD q n 0) p)
+    unfolding startPast
+    begun-past-below z n p l k = rw (b .past n l) (past-below z n p k (eqb (getD (g .nodes .entries) n 0) 1 && has (getD (g .nodes .grants) n 0) (getD (g .nodes .checks) n 0)) refl)
+
     pub begun-good : Good g y w s q
     unfolding startIns startPast
     begun-good = record {
@@ -153,23 +176,9 @@ module _ (g : Graph) where
       q-low = λ n l. rw (b .past n l) (low (eqb (getD (g .nodes .entries) n 0) 1 && has (getD (g .nodes .grants) n 0) (getD (g .nodes .checks) n 0)) n l);
       s-entry = λ n p l k e. rw (b .ins n l, eq-eqb (getD (g .nodes .entries) n 0) 1 e) (toward-refl y (has (getD (g .nodes .grants) n 0) p));
       q-entry = λ n p l k e h. rw (b .past n l, eq-eqb (getD (g .nodes .entries) n 0) 1 e, h) (toward-refl y (has (getD (g .nodes .grants) n 0) p));
-      s-below = λ z c n p l k. rw (b .ins n l) (below z n p l k (eqb (getD (g .nodes .entries) n 0) 1) refl);
-      q-below = λ z c n p l k. rw (b .past n l) (past-below z n p l k (eqb (getD (g .nodes .entries) n 0) 1 && has (getD (g .nodes .grants) n 0) (getD (g .nodes .checks) n 0)) refl);
+      s-below = λ z c n p l k. begun-below z n p l k;
+      q-below = λ z c n p l k. begun-past-below z n p l k;
     }
-      where
-        low : (t : Bool) (n : ℕ) → n < g .size .n → cond t (getD (g .nodes .grants) n 0) (start y (g .size .k)) < 2 ^ g .size .k
-        low true n l = grants-lt acc n l
-        low false n l = start-lt y (g .size .k)
-
-        below : (z : Outs) (n p : ℕ) → n < g .size .n → p < g .size .k → (t : Bool) → eqb (getD (g .nodes .entries) n 0) 1 ≡ t
-            → Toward y (has (cond t (getD (g .nodes .grants) n 0) (start y (g .size .k))) p) (inSet g y z n p)
-        below z n p l k true e = mark-toward y z n p (eqb-true _ 1 e)
-        below z n p l k false e = start-first y (g .size .k) p (inSet g y z n p) (acc .shape .ranges .k-high) k
-
-        past-below : (z : Outs) (n p : ℕ) → n < g .size .n → p < g .size .k → (t : Bool) → eqb (getD (g .nodes .entries) n 0) 1 && has (getD (g .nodes .grants) n 0) (getD (g .nodes .checks) n 0) ≡ t
-            → PastBelow g y w z n p (has (cond t (getD (g .nodes .grants) n 0) (start y (g .size .k))) p)
-        past-below z n p l k true e = mark-past y w z n p (eqb-true _ 1 (left _ _ e)) (right (eqb (getD (g .nodes .entries) n 0) 1) _ e)
-        past-below z n p l k false e = start-past y w z n p (acc .shape .ranges .k-high) k
 
 -- ---- an arrival
 
@@ -185,12 +194,12 @@ module _ (g : Graph) (e p : ℕ) (l : e < g .size .m) (k : p < g .size .k) where
   edge-arrives : Arrives g (toOf g e) (edge e)
   edge-arrives = by-edge e l refl
 
-  edge-toward : (y : System) (z : Outs) → Toward y (z e p) (inSet g y z (toOf g e) p)
+  pub edge-toward : (y : System) (z : Outs) → Toward y (z e p) (inSet g y z (toOf g e) p)
   edge-toward may z = λ t. in-may g z (toOf g e) p .1 (edge e, edge-arrives, arriving-edge g z (toOf g e) e p ∙ t)
   edge-toward sure z = λ t. sym (arriving-edge g z (toOf g e) e p) ∙ in-sure g z (toOf g e) p .0 t (edge e) edge-arrives
 
   -- where a set v that edge e carries counts at the check of its to node
-  edge-past : (y : System) (w : List ℕ) (z : Outs) (q v : ℕ) → v < 2 ^ g .size .k → ((p : ℕ) → p < g .size .k → Toward y (has v p) (z e p)) → counts g y w e v ≡ true
+  pub edge-past : (y : System) (w : List ℕ) (z : Outs) (q v : ℕ) → v < 2 ^ g .size .k → ((p : ℕ) → p < g .size .k → Toward y (has v p) (z e p)) → counts g y w e v ≡ true
       → PastBelow g y w z (toOf g e) p (has q p) → PastBelow g y w z (toOf g e) p (has (merge y q v) p)
   unfolding judgedNum merge
   edge-past may w z q v low h c f =

@@ -1,8 +1,7 @@
 -- Where a test fails nothing is stored; else the slices have room, the ends are nodes, and the loop stores all.
 use borrow.Author.Tests.{not-true, not-false}
 use Rattle.truth.specs.Truth.Tests.{says-true, says-false}
-use Rattle.flow.specs.Walk.{systemOf}
-use Rattle.round.specs.Round.{CanSpread, spread, kept}
+use Rattle.round.specs.Round.{CanSpread, spread, unspread}
 use borrow.Author.Needs.{needs}
 use Rattle.round.proofs.spread.Statement.{statement}
 use Rattle.round.proofs.spread.Tie as tie
@@ -11,20 +10,20 @@ have-room-requires : tie.Need-have-room-requires
 have-room-requires c κs = search needs
 
 returns : tie.Need-returns
-returns c = kept (λ p. says-false (c .before .have-room .ensures) (not-true _ (c .if1 .taken)) (p .room))
+returns c = unspread (λ p. says-false (c .before .have-room .ensures) (not-true _ (c .if1 .taken)) (p .room))
 
 ends-low-requires : tie.Need-ends-low-requires
 ends-low-requires c κs = search needs
 
 returns-2 : tie.Need-returns-2
-returns-2 c = kept (λ p. says-false (c .before .ends-low .ensures) (not-true _ (c .if2 .taken)) (p .low))
+returns-2 c = unspread (λ p. says-false (c .before .ends-low .ensures) (not-true _ (c .if2 .taken)) (p .low))
 
 -- past both tests
 module _ (c : tie.Else2) where
   abbrev start : tie.Start
   start = c .before .before .before .before .before .before .before .before .before .before .before .before .before .before .before
 
-  can : CanSpread (start .args .kinds .now) (start .args .checks .now) (start .args .privileged .now) (start .args .grants .now) (start .args .froms .now) (start .args .tos .now) (start .args .ways .now) (systemOf (start .args .sure)) (start .args .any .now) (start .args .ins .now) (start .args .past .now) (start .args .out .now)
+  can : CanSpread (start .args .kinds .now) (start .args .checks .now) (start .args .privileged .now) (start .args .grants .now) (start .args .froms .now) (start .args .tos .now) (start .args .ways .now) (start .args .any .now) (start .args .ins .now) (start .args .past .now) (start .args .out .now)
   can = record {
     room = says-true (c .before .before .before .have-room .ensures) (not-false _ (c .before .before .if1 .left));
     low = says-true (c .before .ends-low .ensures) (not-false _ (c .if2 .left));

@@ -76,6 +76,8 @@ returns : tie.Need-returns Inv-loop μ-loop
 returns c =
     let at = c .before .loop in
     record {
+      ins-long = at .inv .0 .long;
+      past-long = at .inv .1 .long;
       first = record { ins = filled-all _ _ _ _ _ (omega arith) (at .inv .0); past = filled-all _ _ _ _ _ (omega arith) (at .inv .1) };
       ins-rest = filled-rest _ _ _ _ _ (at .inv .0);
       past-rest = filled-rest _ _ _ _ _ (at .inv .1);

@@ -13,7 +13,6 @@ use records::NodeRow;
 use shortcuts;
 ghost use mathlib.Core.Path.{_≡_};
 ghost use Prim.Native.Nat.{_<_, _≤_};
-ghost use lib.ListN.{length};
 ghost use Rattle.graph.specs.Graph.{nodesOf, edgesOf};
 ghost use Rattle.handover.specs.Handover.{lentOf, Room};
 ghost use Rattle.text.specs.Text.{onMeaning, textAt, readingFrom, reading, Tells};
@@ -27,18 +26,17 @@ pub enum Reading {
 
 // Reads n node rows, the first of which has this number, and stores what they say.
 fn read_nodes(
-    kinds: &mut [u8],
-    checks: &mut [u16],
-    privileged: &mut [u8],
-    entries: &mut [u8],
-    grants: &mut [u64],
+    kinds: &mut [u8; MOST_NODES],
+    checks: &mut [u16; MOST_NODES],
+    privileged: &mut [u8; MOST_NODES],
+    entries: &mut [u8; MOST_NODES],
+    grants: &mut [u64; MOST_NODES],
     s: &[u8],
     from: usize,
     row: usize,
     n: usize,
 ) -> Ran
-    requires { ⌜ row ≤ 4294967296 ⌝ }
-    requires { ⌜ (n ≤ length (now kinds)) × (n ≤ length (now checks)) × (n ≤ length (now privileged)) × (n ≤ length (now entries)) × (n ≤ length (now grants)) ⌝ }
+    requires { ⌜ (row ≤ 4294967296) × (n ≤ 1024) ⌝ }
     ensures { λ r. ⌜ NodesRead (now (s .entry)) from row n r (nodesOf (now (kinds .entry)) (now (checks .entry)) (now (privileged .entry)) (now (entries .entry)) (now (grants .entry))) (nodesOf (now (kinds .exit)) (now (checks .exit)) (now (privileged .exit)) (now (entries .exit)) (now (grants .exit))) ⌝ }
 {
     let mut p = from;
@@ -60,16 +58,15 @@ fn read_nodes(
 
 // Reads m edge rows, the first of which has this number, and stores what they say.
 fn read_edges(
-    froms: &mut [u16],
-    tos: &mut [u16],
-    ways: &mut [u8],
+    froms: &mut [u16; MOST_EDGES],
+    tos: &mut [u16; MOST_EDGES],
+    ways: &mut [u8; MOST_EDGES],
     s: &[u8],
     from: usize,
     row: usize,
     m: usize,
 ) -> Ran
-    requires { ⌜ row ≤ 4294968320 ⌝ }
-    requires { ⌜ (m ≤ length (now froms)) × (m ≤ length (now tos)) × (m ≤ length (now ways)) ⌝ }
+    requires { ⌜ (row ≤ 4294968320) × (m ≤ 4096) ⌝ }
     ensures { λ r. ⌜ EdgesRead (now (s .entry)) from row m r (edgesOf (now (froms .entry)) (now (tos .entry)) (now (ways .entry))) (edgesOf (now (froms .exit)) (now (tos .exit)) (now (ways .exit))) ⌝ }
 {
     let mut p = from;
@@ -89,15 +86,15 @@ fn read_edges(
 
 // The edge rows, the first of which has this number, and the text's end.
 fn parse_edges(
-    froms: &mut [u16],
-    tos: &mut [u16],
-    ways: &mut [u8],
+    froms: &mut [u16; MOST_EDGES],
+    tos: &mut [u16; MOST_EDGES],
+    ways: &mut [u8; MOST_EDGES],
     s: &[u8],
     from: usize,
     row: usize,
     counts: Size,
 ) -> Parsed
-    requires { ⌜ ((row ≤ 4294968320) × (counts .m ≤ 4096)) × (counts .m ≤ length (now froms)) × (counts .m ≤ length (now tos)) × (counts .m ≤ length (now ways)) ⌝ }
+    requires { ⌜ (row ≤ 4294968320) × (counts .m ≤ 4096) ⌝ }
     ensures { λ r. ⌜ TailRead (now (s .entry)) from row counts r (edgesOf (now (froms .entry)) (now (tos .entry)) (now (ways .entry))) (edgesOf (now (froms .exit)) (now (tos .exit)) (now (ways .exit))) ⌝ }
 {
     let ran = read_edges(froms, tos, ways, s, from, row, counts.m);
@@ -106,19 +103,19 @@ fn parse_edges(
 
 // The text from a position on, whose first row has this number.
 fn parse(
-    kinds: &mut [u8],
-    checks: &mut [u16],
-    privileged: &mut [u8],
-    entries: &mut [u8],
-    grants: &mut [u64],
-    froms: &mut [u16],
-    tos: &mut [u16],
-    ways: &mut [u8],
+    kinds: &mut [u8; MOST_NODES],
+    checks: &mut [u16; MOST_NODES],
+    privileged: &mut [u8; MOST_NODES],
+    entries: &mut [u8; MOST_NODES],
+    grants: &mut [u64; MOST_NODES],
+    froms: &mut [u16; MOST_EDGES],
+    tos: &mut [u16; MOST_EDGES],
+    ways: &mut [u8; MOST_EDGES],
     s: &[u8],
     from: usize,
     row: usize,
 ) -> Parsed
-    requires { ⌜ (row < 4294967296) × Room (lentOf (now kinds) (now checks) (now privileged) (now entries) (now grants) (now froms) (now tos) (now ways)) ⌝ }
+    requires { ⌜ row < 4294967296 ⌝ }
     ensures { λ r. ⌜ Parses (lentOf (now (kinds .entry)) (now (checks .entry)) (now (privileged .entry)) (now (entries .entry)) (now (grants .entry)) (now (froms .entry)) (now (tos .entry)) (now (ways .entry))) (now (s .entry)) from row r (lentOf (now (kinds .exit)) (now (checks .exit)) (now (privileged .exit)) (now (entries .exit)) (now (grants .exit)) (now (froms .exit)) (now (tos .exit)) (now (ways .exit))) ⌝ }
 {
     let Header::At { counts, next } = records::read_header(s, from) else {

@@ -34,15 +34,6 @@ enum-told c = search needs
 add-t14 : tie.Need-add-t14 Inv-loop μ-loop
 add-t14 c = search needs
 
-same-length : tie.Need-same-length Inv-loop μ-loop
-same-length c = c .before .before .before .before .loop .inv .1 .long
-
-same-length-2 : tie.Need-same-length-2 Inv-loop μ-loop
-same-length-2 c = c .before .before .before .before .loop .inv .2 .long
-
-same-length-3 : tie.Need-same-length-3 Inv-loop μ-loop
-same-length-3 c = c .before .before .before .before .loop .inv .3 .long
-
 returns : tie.Need-returns Inv-loop μ-loop
 returns c =
     let v = c .before .before .before .before .loop .inv in
@@ -53,17 +44,17 @@ returns c =
 mul-froms : tie.Need-mul-froms Inv-loop μ-loop
 mul-froms c = omega arith
 
-slice-write-froms : tie.Need-slice-write-froms Inv-loop μ-loop
-slice-write-froms c = omega arith
+element-write-froms : tie.Need-element-write-froms Inv-loop μ-loop
+element-write-froms c = omega arith
 
 mul-tos : tie.Need-mul-tos Inv-loop μ-loop
 mul-tos c = omega arith
 
-slice-write-tos : tie.Need-slice-write-tos Inv-loop μ-loop
-slice-write-tos c = omega arith
+element-write-tos : tie.Need-element-write-tos Inv-loop μ-loop
+element-write-tos c = omega arith
 
-slice-write-ways : tie.Need-slice-write-ways Inv-loop μ-loop
-slice-write-ways c = omega arith
+element-write-ways : tie.Need-element-write-ways Inv-loop μ-loop
+element-write-ways c = omega arith
 
 add-i : tie.Need-add-i Inv-loop μ-loop
 add-i c = search needs
@@ -78,15 +69,6 @@ loop-again c =
     let v = r .before .before .loop .inv in
     let w = edge-told _ (sym (r .read-edge .ensures) ∙ c .before .edge .given .1) in
     (end-step _ _ _ _ h w (v .0), slot-step _ _ _ (v .1) h w, slot-step _ _ _ (v .2) h w, slot-step _ _ _ (v .3) h w)
-
-same-length-4 : tie.Need-same-length-4 Inv-loop μ-loop
-same-length-4 c = c .before .loop .inv .1 .long
-
-same-length-5 : tie.Need-same-length-5 Inv-loop μ-loop
-same-length-5 c = c .before .loop .inv .2 .long
-
-same-length-6 : tie.Need-same-length-6 Inv-loop μ-loop
-same-length-6 c = c .before .loop .inv .3 .long
 
 returns-2 : tie.Need-returns-2 Inv-loop μ-loop
 returns-2 c =
@@ -105,19 +87,13 @@ read-edges-spec =
     enum-known-edge
     enum-told
     add-t14
-    same-length
-    same-length-2
-    same-length-3
     returns
     mul-froms
-    slice-write-froms
+    element-write-froms
     mul-tos
-    slice-write-tos
-    slice-write-ways
+    element-write-tos
+    element-write-ways
     add-i
     loop-less
     loop-again
-    same-length-4
-    same-length-5
-    same-length-6
     returns-2)

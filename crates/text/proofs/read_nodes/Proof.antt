@@ -25,7 +25,7 @@ abbrev μ-loop : tie.MeasureT-loop
 -- the row that was read
 module _ (c : tie.After-read-node Inv-loop μ-loop) where
   abbrev start : tie.Start Inv-loop μ-loop
-  start = c .before .before .before .before .before .before .before .before .before
+  start = c .before .before .before .before
 
   row : {y : NodeRow} → c .read-node .result ≡ y → keptRow (start .args .s .now) (c .before .before .loop .p) (c .before .before .loop .i) ≡ nodeRow y
   row e = node-told (nodeAt (start .args .s .now) (c .before .before .loop .p) (c .before .before .loop .i)) (sym (c .read-node .ensures) ∙ e)
@@ -45,21 +45,6 @@ enum-told c = search needs
 add-t16 : tie.Need-add-t16 Inv-loop μ-loop
 add-t16 c = search needs
 
-same-length : tie.Need-same-length Inv-loop μ-loop
-same-length c = c .before .before .before .before .loop .inv .1 .long
-
-same-length-2 : tie.Need-same-length-2 Inv-loop μ-loop
-same-length-2 c = c .before .before .before .before .loop .inv .2 .long
-
-same-length-3 : tie.Need-same-length-3 Inv-loop μ-loop
-same-length-3 c = c .before .before .before .before .loop .inv .3 .long
-
-same-length-4 : tie.Need-same-length-4 Inv-loop μ-loop
-same-length-4 c = c .before .before .before .before .loop .inv .4 .long
-
-same-length-5 : tie.Need-same-length-5 Inv-loop μ-loop
-same-length-5 c = c .before .before .before .before .loop .inv .5 .long
-
 returns : tie.Need-returns Inv-loop μ-loop
 returns c =
     let r = c .before .before in
@@ -68,26 +53,26 @@ returns c =
     let v = r .before .before .loop .inv in
     record { answer = end-stop _ _ _ _ h w (v .0); so = record { kinds = slot-stop _ _ _ (v .1) h w; checks = slot-stop _ _ _ (v .2) h w; privileged = slot-stop _ _ _ (v .3) h w; entries = slot-stop _ _ _ (v .4) h w; grants = slot-stop _ _ _ (v .5) h w } }
 
-slice-write-kinds : tie.Need-slice-write-kinds Inv-loop μ-loop
-slice-write-kinds c = omega arith
+element-write-kinds : tie.Need-element-write-kinds Inv-loop μ-loop
+element-write-kinds c = omega arith
 
 mul-checks : tie.Need-mul-checks Inv-loop μ-loop
 mul-checks c = omega arith
 
-slice-write-checks : tie.Need-slice-write-checks Inv-loop μ-loop
-slice-write-checks c = omega arith
+element-write-checks : tie.Need-element-write-checks Inv-loop μ-loop
+element-write-checks c = omega arith
 
-slice-write-privileged : tie.Need-slice-write-privileged Inv-loop μ-loop
-slice-write-privileged c = omega arith
+element-write-privileged : tie.Need-element-write-privileged Inv-loop μ-loop
+element-write-privileged c = omega arith
 
-slice-write-entries : tie.Need-slice-write-entries Inv-loop μ-loop
-slice-write-entries c = omega arith
+element-write-entries : tie.Need-element-write-entries Inv-loop μ-loop
+element-write-entries c = omega arith
 
 mul-grants : tie.Need-mul-grants Inv-loop μ-loop
 mul-grants c = omega arith
 
-slice-write-grants : tie.Need-slice-write-grants Inv-loop μ-loop
-slice-write-grants c = omega arith
+element-write-grants : tie.Need-element-write-grants Inv-loop μ-loop
+element-write-grants c = omega arith
 
 add-i : tie.Need-add-i Inv-loop μ-loop
 add-i c = search needs
@@ -102,21 +87,6 @@ loop-again c =
     let v = r .before .before .loop .inv in
     let w = row r (c .before .node .given .1) in
     (end-step _ _ _ _ h w (v .0), slot-step _ _ _ (v .1) h w, slot-step _ _ _ (v .2) h w, slot-step _ _ _ (v .3) h w, slot-step _ _ _ (v .4) h w, slot-step _ _ _ (v .5) h w)
-
-same-length-6 : tie.Need-same-length-6 Inv-loop μ-loop
-same-length-6 c = c .before .loop .inv .1 .long
-
-same-length-7 : tie.Need-same-length-7 Inv-loop μ-loop
-same-length-7 c = c .before .loop .inv .2 .long
-
-same-length-8 : tie.Need-same-length-8 Inv-loop μ-loop
-same-length-8 c = c .before .loop .inv .3 .long
-
-same-length-9 : tie.Need-same-length-9 Inv-loop μ-loop
-same-length-9 c = c .before .loop .inv .4 .long
-
-same-length-10 : tie.Need-same-length-10 Inv-loop μ-loop
-same-length-10 c = c .before .loop .inv .5 .long
 
 returns-2 : tie.Need-returns-2 Inv-loop μ-loop
 returns-2 c =
@@ -135,25 +105,15 @@ read-nodes-spec =
     enum-known-node
     enum-told
     add-t16
-    same-length
-    same-length-2
-    same-length-3
-    same-length-4
-    same-length-5
     returns
-    slice-write-kinds
+    element-write-kinds
     mul-checks
-    slice-write-checks
-    slice-write-privileged
-    slice-write-entries
+    element-write-checks
+    element-write-privileged
+    element-write-entries
     mul-grants
-    slice-write-grants
+    element-write-grants
     add-i
     loop-less
     loop-again
-    same-length-6
-    same-length-7
-    same-length-8
-    same-length-9
-    same-length-10
     returns-2)

@@ -100,6 +100,10 @@ module _ {c : Size} {zeros held : Lent} {s : List ℕ} {from row : ℕ} (d : Sai
       (stored (means-so (held-judges p h)) (copied-so (held-judges p h) w))
   handed-tells p q (refused _ h) = refuses (means-so (held-judges p h))
 
+-- what was parsed into has room as before
+pub counted-room : {zeros : Lent} (s : List ℕ) (from row : ℕ) {p : Parsed} {held : Lent} {c : Size} → Parses zeros s from row p held → p ≡ Counted c → Room zeros → Room held
+counted-room {zeros} s from row {held = held} h e z = stores-room (counted-is (subst (λ (q : Parsed). Parses zeros s from row q held) e h) .so) z
+
 -- the answer, by what was parsed
 module _ {before zeros : Lent} (s : List ℕ) (from row : ℕ) {p : Parsed} {held : Lent} (h : Parses zeros s from row p held) where
   pub wrong-tells : {x : ℕ} → p ≡ Wrong x → Tells (onMeaning (textAt s from row)) before (answer.Refused (why.Row x)) before

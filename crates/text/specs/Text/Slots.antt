@@ -1,11 +1,11 @@
 -- What reading the rows i to n from position p on answers and stores, by the row at p: once for every kind of row and every slice.
 use Prim.Native.Nat.{ℕ, zero, suc, _+_, _-_, _≤_, _<_}
-use mathlib.Core.Path.{_≡_, refl, sym, ap, _∙_}
+use mathlib.Core.Path.{_≡_, sym, ap, _∙_}
 use mathlib.Core.List.{List, [], _∷_, map}
 use native.Mathlib.Numerals.{add-one}
 use native.Mathlib.Nat.{sub-eq-zero-of-le, sub-zero}
 use native.Mathlib.Omega.{arith}
-use lib.ListN.{length, set, length-set}
+use lib.ListN.{set}
 use lib.Seq.{sets}
 use Rattle.records.specs.declared.Node.{Node}
 use Rattle.records.specs.declared.NodeRow.{NodeRow}
@@ -24,14 +24,13 @@ one-less n i h = omega arith
 -- A slice k, written below i, is on its way: with what the rows to come say it is what it has to be.
 pub record Slot {X : Type 0} (row : (from i : ℕ) → Got X) (f : X → ℕ) (n from : ℕ) (k₀ k : List ℕ) (p i : ℕ) : Type 0 where
   pub goes : sets k i (map f (rowsFrom row (n - i) p i)) ≡ sets k₀ 0 (map f (rowsFrom row n from 0))
-  pub long : length k ≡ length k₀
 
 module _ {X : Type 0} (row : (from i : ℕ) → Got X) (n from : ℕ) where
   pub end-start : (first : ℕ) → endFrom row first (n - 0) from 0 ≡ endFrom row first n from 0
   end-start first = rw sub-zero
 
   pub slot-start : (f : X → ℕ) (k₀ : List ℕ) → Slot row f n from k₀ k₀ from 0
-  slot-start f k₀ = record { goes = rw sub-zero; long = refl }
+  slot-start f k₀ = record { goes = rw sub-zero }
 
   module _ {p i : ℕ} where
     module _ (first : ℕ) where
@@ -61,7 +60,7 @@ module _ {X : Type 0} (row : (from i : ℕ) → Got X) (n from : ℕ) where
       slot-step {x} {q} h w =
           let a : sets k i (map f (rowsFrom row (n - i) p i)) ≡ sets (set k i (f x)) (i + 1) (map f (rowsFrom row (n - (i + 1)) q (i + 1))) =
           rw (one-less n i h) (simp w (rw (add-one i))) in
-          record { goes = sym a ∙ o .goes; long = simp length-set (o .long) }
+          record { goes = sym a ∙ o .goes }
 
 -- ---- from the answer of a row's reader to the row
 

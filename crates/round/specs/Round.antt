@@ -52,6 +52,7 @@ pub record CanSpread (kinds checks privileged grants froms tos ways a s q out : 
 module _ (kinds checks privileged grants froms tos ways : List ℕ) (y : System) (a s q out : List ℕ) where
   -- every edge's out set is what it carries, the rest is as it was
   pub record SpreadAll (out′ : List ℕ) : Type 0 where
+    pub long : length out′ ≡ length out
     pub sets : (e : ℕ) → e < length froms → getD out′ e 0 ≡ carriedBy kinds checks privileged grants froms tos ways y a s q e
     pub rest : (e : ℕ) → length froms ≤ e → getD out′ e 0 ≡ getD out e 0
 

@@ -42,7 +42,7 @@ same-length c = omega arith
 returns : tie.Need-returns Inv-loop μ-loop
 returns c =
     let at = c .before .loop in
-    record { sets = filled-all _ _ _ _ _ (omega arith) (at .inv); rest = filled-rest _ _ _ _ _ (at .inv) }
+    record { long = at .inv .long; sets = filled-all _ _ _ _ _ (omega arith) (at .inv); rest = filled-rest _ _ _ _ _ (at .inv) }
 
 pub spread-all-spec : {M : Type 1} → statement M
 spread-all-spec =

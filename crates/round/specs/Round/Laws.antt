@@ -1,6 +1,6 @@
 -- What a round needs of its slices an accepted graph has.
 use Prim.Native.Nat.{ℕ, zero, suc, _+_, _≤_, _<_}
-use mathlib.Core.Path.{_≡_, refl, sym, _∙_}
+use mathlib.Core.Path.{_≡_, refl, sym, ap, _∙_}
 use mathlib.Core.List.{List}
 use mathlib.Core.Bool.{Bool, true, false}
 use native.Mathlib.Omega.{arith}
@@ -8,8 +8,10 @@ use native.Mathlib.Numerals.{add-one}
 use lib.ListN.{length, getD}
 use Rattle.graph.specs.Graph.{Graph, Acceptable, System}
 use Rattle.flow.specs.Walk.{countsBy, carried}
+use Rattle.truth.specs.Truth.Kit.{same-list}
 use Rattle.sums.specs.Sums.{Delivers, Begins, begun, kept}
-use Rattle.round.specs.Round.{Carriable, CanSpread, SpreadAll, Spreads, spread, unspread, insTo, pastTo, Gatherable, Gathers, gathered, unbegun}
+use Rattle.sums.specs.Sums.Laws.{begins-one}
+use Rattle.round.specs.Round.{Carriable, CanSpread, SpreadAll, Spreads, spread, unspread, insTo, pastTo, Gatherable, Gathers, gathered, unsent, unbegun}
 use Rattle.truth.specs.Truth.Bools.{clash}
 
 pub carriable : (kinds checks privileged grants froms tos ways a s q out : List ℕ) → CanSpread kinds checks privileged grants froms tos ways a s q out
@@ -86,3 +88,28 @@ module _ (y : System) (k : ℕ) (kinds checks entries grants tos w o s q : List 
       → (s′ ≡ insTo tos y o (length tos) s₀) × (q′ ≡ pastTo kinds checks tos y w o (length tos) q₀)
       → Gathers y k kinds checks entries grants tos w o s q true s′ q′
   gathered-by s′ q′ h e b i = rw (i .0, i .1) (gathered h (rw e at b))
+
+-- ---- one answer, and one content
+
+module _ {kinds checks privileged grants froms tos ways : List ℕ} {y : System} {a s q out : List ℕ} where
+  pub spreads-one : {r t : Bool} {x z : List ℕ} → Spreads kinds checks privileged grants froms tos ways y a s q out r x → Spreads kinds checks privileged grants froms tos ways y a s q out t z
+      → (r ≡ t) × (x ≡ z)
+  spreads-one (spread c f) (spread d h) =
+      (refl, same-list (length froms) _ _ (f .long ∙ sym (h .long)) (λ e l. f .sets e l ∙ sym (h .sets e l)) (λ e l. f .rest e l ∙ sym (h .rest e l)))
+  spreads-one (spread c f) (unspread h) = absurd (h c)
+  spreads-one (unspread h) (spread c f) = absurd (h c)
+  spreads-one (unspread f) (unspread h) = (refl, refl)
+
+module _ {y : System} {k : ℕ} {kinds checks entries grants tos w o s q : List ℕ} where
+  pub gathers-one : {r t : Bool} {a b x z : List ℕ} → Gathers y k kinds checks entries grants tos w o s q r a x → Gathers y k kinds checks entries grants tos w o s q t b z → (r ≡ t) × (a ≡ b) × (x ≡ z)
+  gathers-one (gathered g f) (gathered d h) =
+      let one = begins-one f h in
+      (refl, ap (insTo tos y o (length tos)) (one .1), ap (pastTo kinds checks tos y w o (length tos)) (one .2))
+  gathers-one (gathered g f) (unsent h) = absurd (h g)
+  gathers-one (gathered g f) (unbegun h) = clash refl (begins-one f h .0)
+  gathers-one (unsent h) (gathered g f) = absurd (h g)
+  gathers-one (unsent f) (unsent h) = (refl, refl, refl)
+  gathers-one (unsent f) (unbegun h) = (refl, refl, refl)
+  gathers-one (unbegun h) (gathered g f) = clash refl (begins-one f h .0)
+  gathers-one (unbegun f) (unsent h) = (refl, refl, refl)
+  gathers-one (unbegun f) (unbegun h) = (refl, refl, refl)

@@ -8,6 +8,7 @@ use lib.ListN.{length, getD, set}
 use lib.Seq.{set-getD, set-out}
 use native.Mathlib.Omega.{arith}
 use borrow.Author.Tests.{eq-eqb, ne-eqb, lt-ltb, le-ltb}
+use Rattle.truth.specs.Truth.Kit.{same-list}
 use Rattle.graph.specs.Graph.{System}
 use Rattle.flow.specs.Walk.{merge, into, changes, Begun, Delivered}
 use Rattle.sums.specs.Sums.{alters, Merges, Delivers, Room, Begins, begun, kept}
@@ -53,3 +54,19 @@ module _ (y : System) (k n : ℕ) (checks entries grants s q : List ℕ) where
       → Begins y k n checks entries grants s q r s′ q′ → Begun y k n checks entries grants s′ q′
   begins-begun h (begun _ b) = b .first
   begins-begun h (kept d) = absurd (d h)
+
+-- ---- one answer, and one content
+
+pub delivers-one : {y : System} {s q a b x z : List ℕ} {n v : ℕ} {counted r t : Bool} → Delivers y s q n v counted a x r → Delivers y s q n v counted b z t → (r ≡ t) × (a ≡ b) × (x ≡ z)
+delivers-one f h = (f .told ∙ sym (h .told), f .ins ∙ sym (h .ins), f .past ∙ sym (h .past))
+
+pub begins-one : {y : System} {k n : ℕ} {checks entries grants s q a b x z : List ℕ} {r t : Bool} → Begins y k n checks entries grants s q r a x → Begins y k n checks entries grants s q t b z
+    → (r ≡ t) × (a ≡ b) × (x ≡ z)
+begins-one {n} (begun m f) (begun o h) = (
+  refl,
+  same-list n _ _ (f .ins-long ∙ sym (h .ins-long)) (λ i l. f .first .ins i l ∙ sym (h .first .ins i l)) (λ i l. f .ins-rest i l ∙ sym (h .ins-rest i l)),
+  same-list n _ _ (f .past-long ∙ sym (h .past-long)) (λ i l. f .first .past i l ∙ sym (h .first .past i l)) (λ i l. f .past-rest i l ∙ sym (h .past-rest i l)),
+)
+begins-one (begun m f) (kept h) = absurd (h m)
+begins-one (kept h) (begun m f) = absurd (h m)
+begins-one (kept f) (kept h) = (refl, refl, refl)

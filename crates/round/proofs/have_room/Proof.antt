@@ -1,3 +1,4 @@
+-- Each test that fails refutes a length; past all of them the slices have room.
 use Rattle.truth.specs.Truth.Tests.{says-same, le?}
 use Rattle.truth.specs.Truth.{fails}
 use native.Mathlib.Omega.{arith}

@@ -1,3 +1,4 @@
+-- What leaves the from node is by its places of the slices, so what the edge carries is `carriedBy`.
 use borrow.Author.Needs.{needs}
 use Rattle.round.proofs.out_of.Statement.{statement}
 use Rattle.round.proofs.out_of.Tie as tie

@@ -1,3 +1,4 @@
+-- The sums begin only where there is room for them.
 use borrow.Author.Tests.{not-true, not-false}
 use Rattle.truth.specs.Truth.Tests.{says-true, says-false}
 use Rattle.sums.specs.Sums.{begun, kept}

@@ -30,7 +30,7 @@ build_programs() {
     [ -n "$old" ] || return 0
     need_kit || return
     say "proving and building $*; this takes some minutes, once"
-    (cd "$home" && rt check "$@" </dev/null 2>&1 | sed -n "s/^rt: /$command_name: /p" >&2; exit "${PIPESTATUS[0]}") ||
+    (cd "$home" && rt check "$@" </dev/null 2>&1 | sed -un "s/^rt: /$command_name: /p" >&2; exit "${PIPESTATUS[0]}") ||
         { say 'the program was not proved'; return 1; }
     # A program that came out the same isn't written again.
     for program in "$@"; do touch "$(program_file "$program")"; done

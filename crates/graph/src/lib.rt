@@ -1,9 +1,10 @@
 // The graph's numbers: its kinds, its limits, its size, and why a call that is lent one is refused.
+#![tactic(auto)]
 ghost use Rattle.std.specs.Prelude.{◌≡◌};
 ghost use Rattle.graph.specs.Refusals.{numbered};
 
 // Why a call is refused, each with the place that it names. `Refusals` of specs/ gives the number that goes with each.
-#[derive(Drop)]
+#[derive(Clone, Copy)]
 pub enum Refusal {
     Shape,
     Node(usize),
@@ -81,7 +82,7 @@ pub const MOST_NODES: usize = 1024;
 pub const MOST_EDGES: usize = 4096;
 
 // How many permissions, nodes and edges there are.
-#[derive(Drop)]
+#[derive(Clone, Copy)]
 pub struct Size {
     pub k: usize,
     pub n: usize,

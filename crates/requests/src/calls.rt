@@ -11,7 +11,7 @@ use super::show::{BLANK_U16, BLANK_U64};
 use graph::Size;
 
 // How many places are lent of the two sets of every node and of the stack, and the stack's height.
-#[derive(Drop)]
+#[derive(Clone, Copy)]
 struct Lengths {
     denied: usize,
     granted: usize,
@@ -84,7 +84,7 @@ impl Lent {
 }
 
 // The three numbers after a call's own, of which it may take fewer.
-#[derive(Drop)]
+#[derive(Clone, Copy)]
 pub(crate) struct Asked {
     first: usize,
     second: usize,

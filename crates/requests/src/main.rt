@@ -1,5 +1,6 @@
 // Answers requests from standard input, so that another implementation can be compared from outside. docs/REQUESTS.md says what each
 // request asks for and how it is answered.
+#![tactic(auto)]
 mod calls;
 mod graphs;
 mod numbers;

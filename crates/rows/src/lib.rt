@@ -1,4 +1,5 @@
 // Writes a result's rows as bytes.
+#![tactic(auto)]
 ghost use Rattle.std.specs.Prelude.{◌≡◌, ◌∷◌, length};
 ghost use Rattle.truth.specs.Truth.{Says};
 ghost use Rattle.writer.specs.Writer.{Puts};

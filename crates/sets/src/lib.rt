@@ -1,4 +1,6 @@
 // Permission sets of at most 64 permissions, by value. Every call takes any permission number.
+#![tactic(auto)]
+
 ghost use Rattle.std.specs.Prelude.{◌≡◌};
 ghost use Rattle.sets.specs.Sets.{empty, all, join, common, without, add, within, has, same};
 

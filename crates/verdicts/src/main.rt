@@ -1,5 +1,6 @@
 // Reads a graph's text from standard input and writes the result's rows, or the refusal's, to standard output. Nothing is written there unless the end
 // of the input was seen: a text that was cut short by a failed read may be a good text of another graph.
+#![tactic(auto)]
 ghost use Rattle.std.specs.Prelude.{◌≡◌, List, true, ℕ, ◌≤◌, ◌<◌, length};
 ghost use Rattle.answer.specs.Prints.{Prints, Answers};
 

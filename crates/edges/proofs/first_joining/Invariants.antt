@@ -1,0 +1,14 @@
+-- The loop passes over edges that do not lead there: so far none of them does.
+use Prim.Native.Nat.{◌-◌}
+use native.Mathlib.Omega.{arith}
+use borrow.Author.Rules.{rules}
+use Rattle.truth.specs.Truth.Tests.{Passed, passed_none, passed_more, passed_stop, passed_end, says_true, says_false}
+use Rattle.graph.specs.Graph.{edges_of, edge_at}
+use Rattle.edges.specs.Leading.Search.{Joins}
+use Rattle.edges.proofs.first_joining.Given as goal
+
+abbrev pub invariant-loop-i : goal.invariant-loop-i
+invariant-loop-i l = Passed (λ j. Joins (edge_at (edges_of l.froms l.tos l.ways) j) l.kind l.a l.b → ⊥) l.m l.i
+
+abbrev pub decreases-loop-i : goal.decreases-loop-i
+decreases-loop-i l = l.m - l.i

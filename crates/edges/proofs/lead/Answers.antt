@@ -1,0 +1,17 @@
+use Rattle.truth.specs.Truth.{fails}
+use Rattle.truth.specs.Truth.Tests.{says_same, says_true, says_false}
+use Rattle.edges.specs.Leading.Search.{search_says}
+use borrow.Author.Tests.{not-true, not-false}
+use borrow.Author.Rules.{rules}
+use Rattle.edges.proofs.lead.Goals as goal
+
+pub returns-then-not-edges_long : goal.returns-then-not-edges_long
+returns-then-not-edges_long c = fails (λ l. says_false c.edges_long.ensures (not-true _ c.if-not-edges_long.true) l.long)
+
+pub first_joining-requires : goal.first_joining-requires
+first_joining-requires c = says_true c.edges_long.ensures (not-false _ c.if-not-edges_long.false)
+
+pub returns : goal.returns
+returns c =
+    let long = says_true c.edges_long.ensures (not-false _ c.if-not-edges_long.false) in
+    says_same (search_says c.first_joining.ensures) (λ l. record { long = long; leads = l }) (λ l. l.leads)

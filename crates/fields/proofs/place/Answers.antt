@@ -1,0 +1,11 @@
+use mathlib.Core.Path.{sym, ap}
+use Rattle.fields.specs.Fields.{found}
+use Rattle.scan.specs.declared.Decimal.{Decimal}
+use borrow.Author.Rules.{rules}
+use Rattle.fields.proofs.place.Goals as goal
+
+pub returns-in-Value : goal.returns-in-Value
+returns-in-Value c = sym (ap (λ (d : Decimal). found d c.args.next) c.d-1.given.1)
+
+pub returns-in-Not : goal.returns-in-Not
+returns-in-Not c = sym (ap (λ (d : Decimal). found d c.args.next) c.enum_told-1.given.1)

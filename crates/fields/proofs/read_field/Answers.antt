@@ -1,0 +1,7 @@
+use mathlib.Core.Path.{◌∙◌}
+use Rattle.fields.specs.Fields.Forms.{form_said}
+use borrow.Author.Rules.{rules}
+use Rattle.fields.proofs.read_field.Goals as goal
+
+pub returns : goal.returns
+returns c = c.read_piece.ensures ∙ form_said _ _ _ c.before_comma.ensures

@@ -1,0 +1,11 @@
+use Rattle.flow.specs.Walk.{call_num}
+use borrow.Author.Tests.{eq-eqb, ne_eqb, not-true, not-false}
+use Rattle.flow.proofs.called.Goals as goal
+
+pub returns-then-privileged-eq-MARKED : goal.returns-then-privileged-eq-MARKED
+unfolding call_num
+returns-then-privileged-eq-MARKED c = rw (eq-eqb _ 1 c.if-privileged-eq-MARKED.true)
+
+pub returns : goal.returns
+unfolding call_num
+returns c = rw (ne_eqb _ 1 c.if-privileged-eq-MARKED.false)

@@ -1,0 +1,12 @@
+use Rattle.flow.specs.Walk.{edge_num}
+use borrow.Author.Tests.{eq-eqb, ne_eqb, not-true, not-false}
+use borrow.Author.Rules.{rules}
+use Rattle.flow.proofs.carry.Goals as goal
+
+pub returns-then-way-eq-CALL : goal.returns-then-way-eq-CALL
+unfolding edge_num
+returns-then-way-eq-CALL c = rw (eq-eqb _ 0 c.if-way-eq-CALL.true) c.common.ensures
+
+pub returns : goal.returns
+unfolding edge_num
+returns c = rw (ne_eqb _ 0 c.if-way-eq-CALL.false)

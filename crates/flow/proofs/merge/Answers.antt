@@ -1,0 +1,11 @@
+use Rattle.flow.specs.Walk.{merge}
+use borrow.Author.Rules.{rules}
+use Rattle.flow.proofs.merge.Goals as goal
+
+pub returns-then-sure : goal.returns-then-sure
+unfolding merge
+returns-then-sure c = rw c.if-sure.true c.common.ensures
+
+pub returns : goal.returns
+unfolding merge
+returns c = rw c.if-sure.false c.join.ensures

@@ -1,0 +1,14 @@
+use Prim.Native.Nat.{ℕ, ◌+◌, ◌-◌, ◌≤◌}
+use mathlib.Core.Path.{◌≡◌, refl, sym, ◌∙◌}
+use borrow.Author.Rules.{rules}
+use native.Mathlib.Omega.{arith}
+use lib.ListN.{length, take, drop, length-set}
+use lib.Seq.{sets}
+use Rattle.handover.specs.Handover.Copies.{copy_start, copy_out, copy_step}
+use Rattle.handover.proofs.copy_u16.Given as goal
+
+abbrev pub invariant-loop-i : goal.invariant-loop-i
+invariant-loop-i l = (sets l.to l.i (take (l.n - l.i) (drop l.i l.from)) ≡ sets l.initial.to 0 (take l.n l.from)) × (length l.to ≡ length l.initial.to)
+
+abbrev pub decreases-loop-i : goal.decreases-loop-i
+decreases-loop-i l = l.n - l.i

@@ -1,0 +1,12 @@
+use Rattle.graph.specs.Graph.{edges_of, EdgeAt}
+use Rattle.truth.specs.Truth.Tests.{says_true, says_false, Passed, passed_none, passed_more, passed_stop, passed_end}
+use borrow.Author.Tests.{not-true, not-false}
+use borrow.Author.Rules.{rules}
+use Prim.Native.Nat.{◌-◌}
+use Rattle.judge.proofs.first_bad_edge.Given as goal
+
+abbrev pub invariant-loop-e : goal.invariant-loop-e
+invariant-loop-e l = Passed (EdgeAt l.n l.kinds l.grants (edges_of l.froms l.tos l.ways)) l.m l.e
+
+abbrev pub decreases-loop-e : goal.decreases-loop-e
+decreases-loop-e l = l.m - l.e

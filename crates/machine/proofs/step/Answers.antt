@@ -1,0 +1,81 @@
+-- Past the judgement the graph is accepted, and past the stack's test the stack fits (`accepted`, `fits`): what is behind every later answer.
+use Prim.Native.Nat.{ℕ, ◌<◌}
+use native.Mathlib.Omega.{arith}
+use mathlib.Core.List.{List}
+use borrow.Author.Tests.{not-true, not-false}
+use Rattle.truth.specs.Truth.Tests.{says_true, says_false}
+use Rattle.graph.specs.Graph.{Graph, graph_of, Acceptable}
+use Rattle.graph.specs.Judge.Laws.{accepted_is, refused_is}
+use Rattle.machine.specs.Steps.Parts.{nowhere_refuses, takes_steps, place_low}
+use Rattle.frames.specs.Frames.{StackFits}
+use Rattle.machine.specs.Inspect.{Asks, graph, asked, stack}
+use Rattle.machine.specs.Steps.{Steps, StepRefuses}
+use borrow.Author.Rules.{rules}
+use Rattle.machine.proofs.step.Goals.{After-stack_fits, Else-not-stack_fits, In-At-2, In_default, In_default-1}
+use Rattle.machine.proofs.step.Goals as goal
+
+module _ (c : In_default) where
+
+  abbrev g : Graph
+  g =
+      graph_of c.args.size c.args.kinds.now c.args.checks.now c.args.privileged.now c.args.entries.now
+      c.args.grants.now c.args.froms.now c.args.tos.now c.args.ways.now
+
+  accepted : Acceptable g
+  accepted = accepted_is (rw c.enum_told-1.given.1 at c.check-judged.ensures)
+
+module _ (c : Else-not-stack_fits) where
+
+  abbrev slice : List ℕ
+  slice = c.args.stack.now
+
+  fits : StackFits (g (PLACE After-enum-told of c)).size.n slice c.args.height
+  fits = says_true c.stack_fits.ensures (not-false _ c.if-not-stack_fits.left)
+
+  asks : Asks (g (PLACE After-enum-told of c)) (c.args.next < (g (PLACE After-enum-told of c)).size.n) slice c.args.height
+  asks = record { acceptable = accepted (PLACE After-enum-told of c); below = omega arith; fits = fits }
+
+pub returns-in-Refused : goal.returns-in-Refused
+returns-in-Refused c = Steps.refused (StepRefuses.asks (graph (refused_is (rw c.judged-1.given.1 at c.check-judged.ensures))))
+
+pub returns-then-n-next : goal.returns-then-n-next
+returns-then-n-next c = Steps.refused (StepRefuses.asks (asked (accepted (goal.at.returns-then-n-next c).In_default) (λ h. omega arith)))
+
+pub returns-then-not-stack_fits : goal.returns-then-not-stack_fits
+returns-then-not-stack_fits c =
+    Steps.refused
+    (StepRefuses.asks (stack (accepted (goal.at.returns-then-not-stack_fits c).In_default-1) (omega arith) (says_false c.stack_fits.ensures (not-true _ c.if-not-stack_fits.taken))))
+
+pub find_place-requires : goal.find_place-requires
+find_place-requires c =
+    let f = fits (goal.at.find_place-requires c).After-stack_fits in
+    let a = (accepted (goal.at.find_place-requires c).In_default).shape in
+    ((a.edges, omega (arith, a.nodes.entries), f.held), rw a.nodes.kinds f.nodes)
+
+pub move_to-requires : goal.move_to-requires
+move_to-requires c =
+    let found : tie.After-place = (goal.at.move_to-requires c).In-At-2 in
+    let tested : tie.Else2 = found.before.before.before.before in
+    let f = fits tested in
+    let a = (accepted (told tested)).shape in
+    let n = a.nodes in
+    let p = place_low (rw found.place.given.1 at found.before.before.find-place.ensures) in (
+      (
+        f.held,
+        omega (arith, f.held, f.slice),
+        omega (arith, n.privileged, n.grants),
+        omega (arith, n.kinds, n.grants),
+        omega (arith, n.checks, n.grants),
+        omega (arith, a.ranges.n_high),
+        omega (arith, p, f.held, f.slice),
+      ),
+      rw n.grants f.nodes,
+    )
+
+pub returns-in-Nowhere : goal.returns-in-Nowhere
+returns-in-Nowhere c = Steps.refused (nowhere_refuses _ (asks (goal.at.returns-in-Nowhere c).After-stack_fits) (rw c.enum_told-in-Nowhere-1.given.1 at c.find_place.ensures))
+
+pub returns-in-At : goal.returns-in-At
+returns-in-At c =
+    let found : tie.After-place = (goal.at.returns-in-At c).In-At-2 in
+    takes_steps _ (asks found.before.before.before.before) (rw found.place.given.1 at found.before.before.find-place.ensures) c.move_to.ensures

@@ -1,0 +1,12 @@
+-- The parts of a row stand one after another: the word, the number, the place, the row's end.
+use mathlib.Core.Path.{refl}
+use Rattle.writer.specs.Writer.Places.{puts_then, lent, lent_after}
+use borrow.Author.Rules.{rules}
+use Rattle.refusals.proofs.put_refusal.Goals as goal
+
+pub returns : goal.returns
+returns c =
+    let short = lent c.well-formed.0.0 in
+    let first = puts_then short c.put_all_lem.ensures c.put-number.ensures in
+    let second = puts_then (lent_after short first) c.put.ensures c.put-number2.ensures in
+    puts_then short (puts_then short first second) c.put_all.ensures

@@ -1,0 +1,10 @@
+use Rattle.report.specs.Report.Parts.{WritesJudged, when_accepted, when_refused}
+use borrow.Author.Rules.{rules}
+use Rattle.report.proofs.write_judged.Goals as goal
+
+pub returns-in-Accepted : goal.returns-in-Accepted
+returns-in-Accepted c =
+    rw c.enum_told-1.given.1 (when_accepted c.write_result.ensures)
+
+pub returns-in-Refused : goal.returns-in-Refused
+returns-in-Refused c = rw c.judged-1.given.1 when_refused

@@ -1,0 +1,15 @@
+-- The answer so far says whether all numbers before i are below n.
+use Prim.Native.Nat.{◌-◌, ◌≤◌, ◌<◌}
+use mathlib.Core.Path.{◌≡◌}
+use native.Mathlib.Omega.{arith}
+use borrow.Author.Count.{below_none, below_more}
+use lib.ListN.{length, get_or}
+use Rattle.truth.specs.Truth.{Says, holds, All}
+use Rattle.truth.specs.Truth.Tests.{says_same, and?, lt?}
+use Rattle.round.proofs.all_below.Given as goal
+
+abbrev pub invariant-loop-i : goal.invariant-loop-i
+invariant-loop-i l = (l.i ≤ length l.list) × Says (All (λ j. get_or l.list j 0 < l.n) l.i) l.good
+
+abbrev pub decreases-loop-i : goal.decreases-loop-i
+decreases-loop-i l = length l.list - l.i

@@ -1,0 +1,8 @@
+use mathlib.Core.Path.{refl}
+use Rattle.writer.specs.Writer.Places.{puts_then, lent}
+use borrow.Author.Rules.{rules}
+use Rattle.rows.proofs.put_result.Goals as goal
+
+pub returns : goal.returns
+returns c =
+    puts_then (lent c.well-formed.0.0) c.put_all_lem.ensures c.put_rows.ensures

@@ -1,0 +1,12 @@
+-- The parts of a row stand one after another: the number, the two sets, the verdict, the row's end.
+use mathlib.Core.Path.{refl}
+use Rattle.writer.specs.Writer.Places.{puts_then, lent, lent_after}
+use borrow.Author.Rules.{rules}
+use Rattle.rows.proofs.put_row.Goals as goal
+
+pub returns : goal.returns
+returns c =
+    let short = lent c.well-formed.0.0 in
+    let sets = puts_then short (puts_then short c.put-number.ensures c.put-set-field.ensures) c.put-set-field2.ensures in
+    let last = puts_then (lent_after short sets) c.put.ensures c.put-verdict.ensures in
+    puts_then short (puts_then short sets last) c.put_all_lem.ensures

@@ -1,0 +1,7 @@
+use Rattle.writer.specs.Writer.Places.{puts_then, lent}
+use borrow.Author.Rules.{rules}
+use Rattle.rows.proofs.put_set_field.Goals as goal
+
+pub returns : goal.returns
+returns c =
+    puts_then (lent c.well_formed.0.0) c.put-next.ensures c.put_set.ensures

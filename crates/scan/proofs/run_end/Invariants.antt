@@ -1,0 +1,15 @@
+use Prim.Native.Nat.{ℕ, ◌+◌, ◌-◌, suc}
+use mathlib.Core.Path.{◌≡◌, refl, ap, sym, ◌∙◌}
+use borrow.Author.Rules.{rules}
+use native.Mathlib.Omega.{arith}
+use lib.ListN.{length, drop}
+use borrow.Author.Tests.{not-true, not-false}
+use Rattle.scan.specs.Scan.Runs.{run_step, run_stop, run_out}
+use Rattle.scan.specs.Scan.{run}
+use Rattle.scan.proofs.run_end.Given as goal
+
+abbrev pub invariant-loop-i : goal.invariant-loop-i
+invariant-loop-i l = l.i + run l.class (drop l.i l.s) ≡ l.at + run l.class (drop l.at l.s)
+
+abbrev pub decreases-loop-i : goal.decreases-loop-i
+decreases-loop-i l = length l.s - l.i

@@ -1,0 +1,6 @@
+use borrow.Author.Rules.{rules}
+use Rattle.sets.specs.Sets.Code.{empty_code}
+use Rattle.sets.proofs.Set.is_empty.Goals as goal
+
+pub returns : goal.returns
+returns c = rw empty_code c.same.ensures

@@ -1,0 +1,71 @@
+-- After `begin` and `fill` all nodes are on the stack with the sums that they begin with, so the walk may start (`walk_begins`); after it no
+-- node is on the stack, so every edge is quiet (`rested`), and the out sets are what the edges carry (`spreads_all`).
+use mathlib.Core.Path.{◌≡◌, refl, ◌∙◌}
+use Prim.Native.Nat.{ℕ}
+use lib.ListN.{length, length-replicate, get_or-replicate}
+use native.Mathlib.Omega.{arith}
+use borrow.Author.Rules.{rules}
+use Rattle.worklist.specs.Worklist.Stack.{fills_all}
+use Rattle.flow.specs.Walk.Taken.{walk_begins, rested}
+use Rattle.sums.specs.Sums.Laws.{begins_begun}
+use Rattle.round.specs.Round.Laws.{spreads_all}
+use Rattle.solver.proofs.run.Goals.{After-slice_known-2-1, After-stack-3-1}
+use Rattle.solver.proofs.run.Goals as goal
+
+-- the places of the code after each call, from the places where the next one asks
+abbrev start : tie.After-begin → tie.Start
+start c = c.before.before.before.before.before.before.before.before.before.before.before.before.before.before.before.before
+
+abbrev began : tie.After-stack3 → tie.After-begin
+began c = c.before.before.before.before.before.before.before
+
+abbrev filled : tie.After-stack3 → tie.After-fill
+filled c = c.before.before.before.before.before
+
+pub walk-requires : goal.walk-requires
+walk-requires c =
+    let b = (began (goal.at.walk-requires c).After-stack-3-1).begin in
+    let f = (filled (goal.at.walk-requires c).After-stack-3-1).fill in
+    let lent = (began (goal.at.walk-requires c).After-stack-3-1).before in
+    let p = (start (began (goal.at.walk-requires c).After-stack-3-1)).pre in
+    let shape = p.0.acc.shape in
+    let high = shape.ranges.n_high in
+    let marks = length-replicate {A = ℕ} 1024 1 in
+    let places = length-replicate {A = ℕ} 1024 0 in (
+      p.0,
+      (
+        walk_begins _ _ _ _ _ _ _ _ p.0.acc (begins_begun _ _ _ _ _ _ _ _ (record {
+          ins_long = omega (arith, lent.before.begin-arg.given.0.1, high);
+          past_long = omega (arith, lent.begin-arg2.given.0.1, high);
+          checks_long = omega (arith, shape.nodes.checks);
+          entries_long = omega (arith, shape.nodes.entries);
+          grants_long = omega (arith, shape.nodes.grants);
+        }) b.ensures) (omega (arith, c.walk-arg-1.given.0.1, high)) (omega (arith, c.walk-arg-2-1.given.0.1, high)) (omega (arith, marks, high)) (omega (arith, f.kept.0, high))
+            (λ j l. get_or-replicate 1024 j 1 0 l) (fills_all _ _ (omega (arith, places, high)) (omega (arith, high)) f.ensures),
+        (p.1.0, p.1.1.0),
+      ),
+    )
+
+-- at the end: the out sets stored, what the walk left of the sums, and that these have a place for each node still
+module _ (c : After-slice_known-2-1) where
+
+
+  ins_long : length c.walk.last.0 ≡ 1024
+  ins_long = c.walk.kept.0 ∙ c.walk-arg-1.given.0.1
+
+  past_long : length c.walk.last.1.0 ≡ 1024
+  past_long = c.walk.kept.1.0 ∙ c.walk-arg-2-1.given.0.1
+
+pub returns : goal.returns
+returns c =
+    let p = (start (began (goal.at.returns c).After-stack-3-1)).pre in
+    let walking = c.walk.ensures in
+    let high = p.0.acc.shape.ranges.n_high in (
+      (ins_long (goal.at.returns c).After-slice_known-2-1, past_long (goal.at.returns c).After-slice_known-2-1),
+      record {
+        setting = p.0;
+        good = walking.pending.good;
+        quiet = rested _ _ _ _ _ _ p.0 p.1.0 _ refl walking;
+        stored = spreads_all _ _ _ _ _ _ p.0.acc (omega (arith, p.1.1.1)) p.1.1.0.1 (omega (arith, ins_long (goal.at.returns c).After-slice_known-2-1, high)) (omega (arith, past_long (goal.at.returns c).After-slice_known-2-1, high)) c.spread.ensures;
+      },
+    )

@@ -1,0 +1,55 @@
+-- A first row that is wrong ends it. Else its counts are in range, so that the arrays have places for as many nodes and edges. The node rows are read
+-- first, and where one is wrong its number is the answer; else the edge rows follow where they end.
+-- ---- the way back from a place
+use mathlib.Core.Path.{◌≡◌, sym, ◌∙◌}
+use native.Mathlib.Omega.{arith}
+use Rattle.graph.specs.Graph.{Ranges}
+use Rattle.records.specs.Records.{header_at, got}
+use Rattle.records.specs.Records.Rows.{header_told, header_ranges}
+use Rattle.text.specs.Text.Ends.{parse_none, parse_stop, parse_past}
+use borrow.Author.Rules.{rules}
+use Rattle.text.proofs.parse.Goals.{After-read_nodes-ran, In-At-2, In-Past-2}
+use Rattle.text.proofs.parse.Goals as goal
+
+-- what is known once the first row was read, and is right
+module _ (c : In-At-2) where
+
+  header : header_at c.args.s.now c.args.from ≡ got c.counts-1.given.0.0 c.counts-1.given.0.1.0
+  header = header_told _ (sym c.read_header.ensures ∙ c.counts-1.given.1)
+
+  ranges : Ranges c.counts-1.given.0.0
+  ranges = header_ranges _ _ header
+
+abbrev to-counts : tie.After-read-nodes → tie.After-counts
+to-counts c = c.before.before.before.before.before.before.before
+
+abbrev past-to-read : tie.After-ran2 → tie.After-read-nodes
+past-to-read c = c.before.before
+
+pub returns-in_default : goal.returns-in_default
+returns-in_default c = parse_none _ _ _ (header_told _ (sym c.read_header.ensures ∙ c.enum_told-1.given.1))
+
+pub overflow_add-first : goal.overflow_add-first
+overflow_add-first c = omega (arith, c.requires)
+
+pub read_nodes-ran-requires : goal.read_nodes-ran-requires
+read_nodes-ran-requires c = (omega (arith, c.requires), (ranges (goal.at.read_nodes-ran-requires c).In-At-2).n_high)
+
+pub overflow_add-first-in-Past : goal.overflow_add-first-in-Past
+overflow_add-first-in-Past c =
+    let counted = to-counts (past-to-read (goal.at.overflow_add-first-in-Past c).In-Past-2) in
+    omega (arith, (start counted).pre, (ranges counted).n_high)
+
+pub parse_edges-requires : goal.parse_edges-requires
+parse_edges-requires c =
+    let counted = to-counts (past-to-read (goal.at.parse_edges-requires c).In-Past-2) in
+    (omega (arith, (start counted).pre, (ranges counted).n_high), (ranges counted).m_high)
+
+pub returns-in-Stop : goal.returns-in-Stop
+returns-in-Stop c =
+    parse_stop _ _ _ (header (to-counts (goal.at.returns-in-Stop c).After-read_nodes-ran)) c.read_nodes-ran.ensures.answer c.ran-1.given.1
+
+pub returns-in-Past : goal.returns-in-Past
+returns-in-Past c =
+    let read = past-to-read (goal.at.returns-in-Past c).In-Past-2 in
+    parse_past _ _ _ (header (to-counts read)) read.read-nodes.ensures c.ran-in-Past-1.given.1 c.parse_edges.ensures

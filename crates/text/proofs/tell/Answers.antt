@@ -1,0 +1,11 @@
+use mathlib.Core.Path.{sym, ap}
+use Rattle.graph.specs.declared.Judged.{Judged}
+use Rattle.text.specs.Text.Parts.{told}
+use borrow.Author.Rules.{rules}
+use Rattle.text.proofs.tell.Goals as goal
+
+pub returns-in-Accepted : goal.returns-in-Accepted
+returns-in-Accepted c = sym (ap (λ (j : Judged). told j c.args.size) c.enum_told-1.given.1)
+
+pub returns-in-Refused : goal.returns-in-Refused
+returns-in-Refused c = sym (ap (λ (j : Judged). told j c.args.size) c.judged-1.given.1)

@@ -1,0 +1,10 @@
+use mathlib.Core.Path.{◌∙◌}
+use native.Mathlib.Omega.{arith}
+use Rattle.writer.specs.Writer.Numbers.{decimal_digits, fewest_short}
+use borrow.Author.Rules.{rules}
+use Rattle.writer.proofs.put_long.Goals as goal
+
+pub returns : goal.returns
+returns c =
+    let d = c.decimal-count in
+    rw (d.ensures.1.1 ∙ decimal_digits 20 _ _ d.ensures.1.0 (fewest_short _ _ d.ensures.1.0 (search rules))) at c.put_all_lem.ensures

@@ -16,7 +16,7 @@ module _ (c : After-judge_held-judged) where
   lent = lent_of c.args.kinds.now c.args.checks.now c.args.privileged.now c.args.entries.now c.args.grants.now c.args.froms.now c.args.tos.now c.args.ways.now
 
   room : Room lent
-  room = let h = says_true c.has_room.ensures (not-false _ c.if-not-has_room.left) in record { nodes = h.0; edges = h.1 }
+  room = let h = says_true c.has_room.ensures c.if-not-has_room.left in record { nodes = h.0; edges = h.1 }
 
 abbrev to-judged : tie.After-enum-told → tie.After-judge-held
 to-judged c = c.before.before
@@ -31,7 +31,7 @@ abbrev to-edges : tie.After-slice-known16 → tie.After-store-edges
 to-edges c = c.before.before.before.before.before.before
 
 pub returns-then-not-has_room : goal.returns-then-not-has_room
-returns-then-not-has_room c = cramped (λ r. says_false c.has_room.ensures (not-true _ c.if-not-has_room.taken) (r.nodes, r.edges))
+returns-then-not-has_room c = cramped (λ r. says_false c.has_room.ensures c.if-not-has_room.taken (r.nodes, r.edges))
 
 pub returns-in-Refused : goal.returns-in-Refused
 returns-in-Refused c =

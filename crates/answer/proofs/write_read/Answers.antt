@@ -9,33 +9,33 @@ module _ (c : In-Graph) where
 
 
 pub slice_bounds-write_graph-end : goal.slice_bounds-write_graph-end
-slice_bounds-write_graph-end c = omega (arith, (c.requires _ c.reading-1.given.1).nodes.kinds)
+slice_bounds-write_graph-end c = omega (arith, (c.requires _ c.in-Graph.is).nodes.kinds)
 
 pub slice_bounds-write_graph-end-in-Graph : goal.slice_bounds-write_graph-end-in-Graph
-slice_bounds-write_graph-end-in-Graph c = omega (arith, (c.requires _ c.reading-1.given.1).nodes.checks)
+slice_bounds-write_graph-end-in-Graph c = omega (arith, (c.requires _ c.in-Graph.is).nodes.checks)
 
 pub slice_bounds-write_graph-end-in-Graph-2 : goal.slice_bounds-write_graph-end-in-Graph-2
-slice_bounds-write_graph-end-in-Graph-2 c = omega (arith, (c.requires _ c.reading-1.given.1).nodes.privileged)
+slice_bounds-write_graph-end-in-Graph-2 c = omega (arith, (c.requires _ c.in-Graph.is).nodes.privileged)
 
 pub slice_bounds-write_graph-end-in-Graph-3 : goal.slice_bounds-write_graph-end-in-Graph-3
-slice_bounds-write_graph-end-in-Graph-3 c = omega (arith, (c.requires _ c.reading-1.given.1).nodes.entries)
+slice_bounds-write_graph-end-in-Graph-3 c = omega (arith, (c.requires _ c.in-Graph.is).nodes.entries)
 
 pub slice_bounds-write_graph-end-in-Graph-4 : goal.slice_bounds-write_graph-end-in-Graph-4
-slice_bounds-write_graph-end-in-Graph-4 c = omega (arith, (c.requires _ c.reading-1.given.1).nodes.grants)
+slice_bounds-write_graph-end-in-Graph-4 c = omega (arith, (c.requires _ c.in-Graph.is).nodes.grants)
 
 pub slice_bounds-write_graph-end-in-Graph-5 : goal.slice_bounds-write_graph-end-in-Graph-5
-slice_bounds-write_graph-end-in-Graph-5 c = omega (arith, (c.requires _ c.reading-1.given.1).edges.froms)
+slice_bounds-write_graph-end-in-Graph-5 c = omega (arith, (c.requires _ c.in-Graph.is).edges.froms)
 
 pub slice_bounds-write_graph-end-in-Graph-6 : goal.slice_bounds-write_graph-end-in-Graph-6
-slice_bounds-write_graph-end-in-Graph-6 c = omega (arith, (c.requires _ c.reading-1.given.1).edges.tos)
+slice_bounds-write_graph-end-in-Graph-6 c = omega (arith, (c.requires _ c.in-Graph.is).edges.tos)
 
 pub slice_bounds-write_graph-end-in-Graph-7 : goal.slice_bounds-write_graph-end-in-Graph-7
-slice_bounds-write_graph-end-in-Graph-7 c = omega (arith, (c.requires _ c.reading-1.given.1).edges.ways)
+slice_bounds-write_graph-end-in-Graph-7 c = omega (arith, (c.requires _ c.in-Graph.is).edges.ways)
 
 pub returns-in-Graph : goal.returns-in-Graph
 returns-in-Graph c =
-    rw c.reading-1.given.1 (graph_read c.write_graph.ensures)
+    rw c.in-Graph.is (graph_read c.write_graph.ensures)
 
 pub returns-in-Refused : goal.returns-in-Refused
 returns-in-Refused c =
-    rw c.reading-in-Refused-1.given.1 (nothing_read c.write_refusal.ensures)
+    rw c.in-Refused.is (nothing_read c.write_refusal.ensures)

@@ -4,10 +4,10 @@ use borrow.Author.Rules.{rules}
 use Rattle.extent.proofs.end_text.Goals as goal
 
 pub returns-then-q-len : goal.returns-then-q-len
-returns-then-q-len c = sym (end_more _ _ _ c.ran-in-Past-1.given.1 c.if-q-len.true)
+returns-then-q-len c = sym (end_more _ _ _ c.in-Past.is c.if-q-len.true)
 
 pub returns-in-Stop : goal.returns-in-Stop
-returns-in-Stop c = sym (end_wrong _ _ _ c.ran-1.given.1)
+returns-in-Stop c = sym (end_wrong _ _ _ c.in-Stop.is)
 
 pub returns-else-q-len : goal.returns-else-q-len
-returns-else-q-len c = sym (end_done _ _ _ c.ran-in-Past-1.given.1 c.if-q-len.false)
+returns-else-q-len c = sym (end_done _ _ _ c.in-Past.is c.if-q-len.false)

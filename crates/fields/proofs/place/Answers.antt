@@ -5,7 +5,7 @@ use borrow.Author.Rules.{rules}
 use Rattle.fields.proofs.place.Goals as goal
 
 pub returns-in-Value : goal.returns-in-Value
-returns-in-Value c = sym (ap (λ (d : Decimal). found d c.args.next) c.d-1.given.1)
+returns-in-Value c = sym (ap (λ (d : Decimal). found d c.args.next) c.in-Value.is)
 
 pub returns-in-Not : goal.returns-in-Not
-returns-in-Not c = sym (ap (λ (d : Decimal). found d c.args.next) c.enum_told-1.given.1)
+returns-in-Not c = sym (ap (λ (d : Decimal). found d c.args.next) c.in-Not.is)

@@ -4,10 +4,10 @@ use borrow.Author.Rules.{rules}
 use Rattle.fields.proofs.read_own.Goals as goal
 
 pub returns-in_default : goal.returns-in_default
-returns-in_default c = sym (own_not _ _ (sym c.number-d.ensures ∙ c.enum_told-1.given.1))
+returns-in_default c = sym (own_not _ _ (sym c.number-d.ensures ∙ c.in_default.is))
 
 pub returns-then-v-i : goal.returns-then-v-i
-returns-then-v-i c = sym (own_yes _ _ (sym c.number-d.ensures ∙ c.d-1.given.1) c.if-v-i.true)
+returns-then-v-i c = sym (own_yes _ _ (sym c.number-d.ensures ∙ c.in-Value.is) c.if-v-i.true)
 
 pub returns : goal.returns
-returns c = sym (own_other _ _ (sym c.number-d.ensures ∙ c.d-1.given.1) c.if-v-i.false)
+returns c = sym (own_other _ _ (sym c.number-d.ensures ∙ c.in-Value.is) c.if-v-i.false)

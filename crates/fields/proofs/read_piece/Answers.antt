@@ -5,10 +5,10 @@ use borrow.Author.Rules.{rules}
 use Rattle.fields.proofs.read_piece.Goals as goal
 
 pub returns-in_default : goal.returns-in_default
-returns-in_default c = sym (ap (said_by _ _) c.enum_told-1.given.1)
+returns-in_default c = sym (ap (said_by _ _) c.in_default.is)
 
 pub returns : goal.returns
 returns c =
     c.place.ensures
-    ∙ ap (λ (d : Decimal). found d c.piece-1.given.0.1.1.0) (c.decode.ensures ∙ ap (says _) c.field.ensures)
-    ∙ sym (ap (said_by _ _) c.piece-1.given.1)
+    ∙ ap (λ (d : Decimal). found d c.in-Part.next) (c.decode.ensures ∙ ap (says _) c.field.ensures)
+    ∙ sym (ap (said_by _ _) c.in-Part.is)

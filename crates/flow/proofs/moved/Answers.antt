@@ -11,12 +11,12 @@ returns-then-kind-ne-KIND_CHECK c = rw (ne_eqb _ 2 c.if-kind-ne-KIND_CHECK.true)
 
 pub returns-then-not-is_privileged : goal.returns-then-not-is_privileged
 unfolding trans_num
-returns-then-not-is_privileged c = rw (eq-eqb _ 2 c.if-kind-ne-KIND_CHECK.false, sym c.is_privileged.ensures ∙ not-true _ c.if-not-is_privileged.true)
+returns-then-not-is_privileged c = rw (eq-eqb _ 2 c.if-kind-ne-KIND_CHECK.false, sym c.is_privileged.ensures ∙ c.if-not-is_privileged.true)
 
 pub returns-then-has : goal.returns-then-has
 unfolding trans_num
-returns-then-has c = rw (eq-eqb _ 2 c.if-kind-ne-KIND_CHECK.false, sym c.is_privileged.ensures ∙ not-false _ c.if-not-is_privileged.false, sym c.has.ensures ∙ c.if-has.true)
+returns-then-has c = rw (eq-eqb _ 2 c.if-kind-ne-KIND_CHECK.false, sym c.is_privileged.ensures ∙ c.if-not-is_privileged.false, sym c.has.ensures ∙ c.if-has.true)
 
 pub returns : goal.returns
 unfolding trans_num
-returns c = rw (eq-eqb _ 2 c.if-kind-ne-KIND_CHECK.false, sym c.is_privileged.ensures ∙ not-false _ c.if-not-is_privileged.false, sym c.has.ensures ∙ c.if-has.false) (sym empty_code)
+returns c = rw (eq-eqb _ 2 c.if-kind-ne-KIND_CHECK.false, sym c.is_privileged.ensures ∙ c.if-not-is_privileged.false, sym c.has.ensures ∙ c.if-has.false) (sym empty_code)

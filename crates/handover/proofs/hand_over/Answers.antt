@@ -16,7 +16,7 @@ module _ (c : After-judge_held-judged) where
   lent = lent_of c.args.kinds.now c.args.checks.now c.args.privileged.now c.args.entries.now c.args.grants.now c.args.froms.now c.args.tos.now c.args.ways.now
 
   room : Room lent
-  room = let h = says_true c.has_room.ensures c.if-not-has_room.left in record { nodes = h.0; edges = h.1 }
+  room = let h = says_true c.has_room.ensures (not-false _ c.if-not-has_room.left) in record { nodes = h.0; edges = h.1 }
 
 abbrev to-judged : tie.After-enum-told → tie.After-judge-held
 to-judged c = c.before.before
@@ -31,16 +31,16 @@ abbrev to-edges : tie.After-slice-known16 → tie.After-store-edges
 to-edges c = c.before.before.before.before.before.before
 
 pub returns-then-not-has_room : goal.returns-then-not-has_room
-returns-then-not-has_room c = cramped (λ r. says_false c.has_room.ensures c.if-not-has_room.taken (r.nodes, r.edges))
+returns-then-not-has_room c = cramped (λ r. says_false c.has_room.ensures (c.if-not-has_room.taken) (r.nodes, r.edges))
 
 pub returns-in-Refused : goal.returns-in-Refused
 returns-in-Refused c =
-    refused (room (goal.at.returns-in-Refused c).After-judge_held-judged) (held_by c.judged-1.given.1 c.judge_held-judged.ensures)
+    refused (room (goal.at.returns-in-Refused c).After-judge_held-judged) (held_by c.in-Refused.is c.judge_held-judged.ensures)
 
 pub store_nodes-requires : goal.store_nodes-requires
 store_nodes-requires c =
     let j = to-judged (goal.at.store_nodes-requires c).In_default in
-    let f = held_fine c.enum_told-1.given.1 j.judge-held.ensures in
+    let f = held_fine c.in_default.is j.judge-held.ensures in
     ((f.ranges.n_high, (room j).nodes), f.room.nodes)
 
 pub store_edges-requires : goal.store_edges-requires

@@ -9,10 +9,10 @@ use Rattle.judge.proofs.check.Goals.{Else-e-m, Else-i-n, Else-not-has_shape}
 use Rattle.judge.proofs.check.Goals as goal
 
 pub returns-then-not-has_shape : goal.returns-then-not-has_shape
-returns-then-not-has_shape c = refused (shape (says_false c.has_shape.ensures c.if-not-has_shape.true))
+returns-then-not-has_shape c = refused (shape (says_false c.has_shape.ensures (c.if-not-has_shape.true)))
 
 pub first_bad_node-i-requires : goal.first_bad_node-i-requires
-first_bad_node-i-requires c = let s = says_true c.has_shape.ensures c.if-not-has_shape.false in search rules
+first_bad_node-i-requires c = let s = says_true c.has_shape.ensures (c.if-not-has_shape.false) in search rules
 
 pub returns-then-i-n : goal.returns-then-i-n
 returns-then-i-n c =

@@ -4,10 +4,10 @@ use borrow.Author.Rules.{rules}
 use Rattle.lex.proofs.before_comma.Goals as goal
 
 pub returns-in-More : goal.returns-in-More
-returns-in-More c = sym (comma_of _ _ (sym c.lex.ensures ∙ c.start-1.given.1))
+returns-in-More c = sym (comma_of _ _ (sym c.lex.ensures ∙ c.in-More.is))
 
 pub returns-in-Last : goal.returns-in-Last
-returns-in-Last c = sym (comma_of _ _ (sym c.lex.ensures ∙ c.enum_told-1.given.1))
+returns-in-Last c = sym (comma_of _ _ (sym c.lex.ensures ∙ c.in-Last.is))
 
 pub returns-in-Bad : goal.returns-in-Bad
-returns-in-Bad c = sym (comma_of _ _ (sym c.lex.ensures ∙ c.enum_told-in-Bad-1.given.1))
+returns-in-Bad c = sym (comma_of _ _ (sym c.lex.ensures ∙ c.in-Bad.is))

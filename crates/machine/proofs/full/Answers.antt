@@ -9,25 +9,25 @@ use Rattle.machine.proofs.full.Goals as goal
 pub returns-in-Refused : goal.returns-in-Refused
 returns-in-Refused c =
     FullAnswers.refused
-    (graph (refused_is (rw c.judged-1.given.1 at c.check-judged.ensures)))
+    (graph (refused_is (rw c.in-Refused.is at c.check-judged.ensures)))
 
 pub returns-then-k-p : goal.returns-then-k-p
 returns-then-k-p c =
     FullAnswers.refused
-    (asked (accepted_is (rw c.enum_told-1.given.1 at c.check-judged.ensures)) (λ h. omega arith))
+    (asked (accepted_is (rw c.in_default.is at c.check-judged.ensures)) (λ h. omega arith))
 
 pub returns-then-not-stack_fits : goal.returns-then-not-stack_fits
 returns-then-not-stack_fits c =
     FullAnswers.refused
     (stack
-    (accepted_is (rw c.enum_told-1.given.1 at c.check-judged.ensures))
+    (accepted_is (rw c.in_default.is at c.check-judged.ensures))
     (omega arith)
-    (says_false c.stack_fits.ensures c.if-not-stack_fits.true))
+    (says_false c.stack_fits.ensures (c.if-not-stack_fits.true)))
 
 pub look_full-requires : goal.look_full-requires
 look_full-requires c =
-    let a = accepted_is (rw c.enum_told-1.given.1 at c.check-judged.ensures) in
-    let f = says_true c.stack_fits.ensures c.if-not-stack_fits.false in
+    let a = accepted_is (rw c.in_default.is at c.check-judged.ensures) in
+    let f = says_true c.stack_fits.ensures (c.if-not-stack_fits.false) in
     let n = a.shape.nodes in
     ((f.held, omega (arith, f.held, f.slice), omega (arith, n.privileged, n.grants)), rw n.grants f.nodes)
 
@@ -35,8 +35,8 @@ pub returns : goal.returns
 returns c =
     FullAnswers.looked {a = c.look_full.result}
     (record {
-      acceptable = accepted_is (rw c.enum_told-1.given.1 at c.check-judged.ensures);
+      acceptable = accepted_is (rw c.in_default.is at c.check-judged.ensures);
       below = omega arith;
-      fits = says_true c.stack_fits.ensures c.if-not-stack_fits.false;
+      fits = says_true c.stack_fits.ensures (c.if-not-stack_fits.false);
     })
     c.look_full.ensures

@@ -46,7 +46,7 @@ overflow_add-result c = omega (arith, c.requires.0.1)
 pub returns-then-not-has : goal.returns-then-not-has
 returns-then-not-has c =
     looking_fails c.loop-h.invariant c.loop-h-test.true
-    (full_lacks _ _ _ _ (sym c.has.ensures ∙ not-true _ c.if-not-has.true))
+    (full_lacks _ _ _ _ (sym c.has.ensures ∙ c.if-not-has.true))
 
 pub bounds-privileged-i : goal.bounds-privileged-i
 bounds-privileged-i c = omega (arith, node (goal.at.bounds-privileged-i c).In-loop-h, c.requires.0.2)
@@ -60,7 +60,7 @@ overflow_add-result-then-is_privileged c = omega (arith, c.requires.0.1)
 pub returns-then-is_privileged : goal.returns-then-is_privileged
 returns-then-is_privileged c =
     looking_passes c.loop-h.invariant c.loop-h-test.true
-    (full_stops _ _ _ _ (sym c.has.ensures ∙ not-false _ c.if-not-has.false) (sym c.is_privileged.ensures ∙ c.if-is_privileged.true))
+    (full_stops _ _ _ _ (sym c.has.ensures ∙ c.if-not-has.false) (sym c.is_privileged.ensures ∙ c.if-is_privileged.true))
 
 pub loop-h-smaller : goal.loop-h-smaller
 loop-h-smaller c = omega (arith, c.loop-h-test.true)
@@ -68,7 +68,7 @@ loop-h-smaller c = omega (arith, c.loop-h-test.true)
 pub loop-h-preserved : goal.loop-h-preserved
 loop-h-preserved c =
     looking_below c.loop-h.invariant c.loop-h-test.true
-    (full_below _ _ _ _ (sym c.has.ensures ∙ not-false _ c.if-not-has.false) (sym c.is_privileged.ensures ∙ c.if-is_privileged.false))
+    (full_below _ _ _ _ (sym c.has.ensures ∙ c.if-not-has.false) (sym c.is_privileged.ensures ∙ c.if-is_privileged.false))
 
 pub returns : goal.returns
 returns c = looking_end c.loop-h.invariant c.loop-h-test.false (full_bottom _ _)

@@ -22,7 +22,7 @@ module _ (c : In_default) where
       c.args.grants.now c.args.froms.now c.args.tos.now c.args.ways.now
 
   accepted : Acceptable g
-  accepted = accepted_is (rw c.enum_told-1.given.1 at c.check-judged.ensures)
+  accepted = accepted_is (rw c.in_default.is at c.check-judged.ensures)
 
 module _ (c : Else-not-stack_fits) where
 
@@ -30,13 +30,13 @@ module _ (c : Else-not-stack_fits) where
   slice = c.args.stack.now
 
   fits : StackFits (g (PLACE After-enum-told of c)).size.n slice c.args.height
-  fits = says_true c.stack_fits.ensures c.if-not-stack_fits.left
+  fits = says_true c.stack_fits.ensures (not-false _ c.if-not-stack_fits.left)
 
   asks : Asks (g (PLACE After-enum-told of c)) (c.args.next < (g (PLACE After-enum-told of c)).size.n) slice c.args.height
   asks = record { acceptable = accepted (PLACE After-enum-told of c); below = omega arith; fits = fits }
 
 pub returns-in-Refused : goal.returns-in-Refused
-returns-in-Refused c = Steps.refused (StepRefuses.asks (graph (refused_is (rw c.judged-1.given.1 at c.check-judged.ensures))))
+returns-in-Refused c = Steps.refused (StepRefuses.asks (graph (refused_is (rw c.in-Refused.is at c.check-judged.ensures))))
 
 pub returns-then-n-next : goal.returns-then-n-next
 returns-then-n-next c = Steps.refused (StepRefuses.asks (asked (accepted (goal.at.returns-then-n-next c).In_default) (λ h. omega arith)))
@@ -44,7 +44,7 @@ returns-then-n-next c = Steps.refused (StepRefuses.asks (asked (accepted (goal.a
 pub returns-then-not-stack_fits : goal.returns-then-not-stack_fits
 returns-then-not-stack_fits c =
     Steps.refused
-    (StepRefuses.asks (stack (accepted (goal.at.returns-then-not-stack_fits c).In_default-1) (omega arith) (says_false c.stack_fits.ensures c.if-not-stack_fits.taken)))
+    (StepRefuses.asks (stack (accepted (goal.at.returns-then-not-stack_fits c).In_default-1) (omega arith) (says_false c.stack_fits.ensures (c.if-not-stack_fits.taken))))
 
 pub find_place-requires : goal.find_place-requires
 find_place-requires c =
@@ -73,7 +73,7 @@ move_to-requires c =
     )
 
 pub returns-in-Nowhere : goal.returns-in-Nowhere
-returns-in-Nowhere c = Steps.refused (nowhere_refuses _ (asks (goal.at.returns-in-Nowhere c).After-stack_fits) (rw c.enum_told-in-Nowhere-1.given.1 at c.find_place.ensures))
+returns-in-Nowhere c = Steps.refused (nowhere_refuses _ (asks (goal.at.returns-in-Nowhere c).After-stack_fits) (rw c.in-Nowhere.is at c.find_place.ensures))
 
 pub returns-in-At : goal.returns-in-At
 returns-in-At c =

@@ -39,7 +39,7 @@ pub overflow_cast-checks : goal.overflow_cast-checks
 overflow_cast-checks c = omega (arith, c.shared_slice_known-8-1.given (get_or c.args.stack.now (top (goal.at.overflow_cast-checks c).Else-height-eq0) 0))
 
 pub returns-in-Passes : goal.returns-in-Passes
-returns-in-Passes c = fails (λ d. clash (passes_says (rw c.looked-1.given.1 at c.look_full.ensures)) d.fails)
+returns-in-Passes c = fails (λ d. clash (passes_says (rw c.in-Passes.is at c.look_full.ensures)) d.fails)
 
 pub returns-in-Fails : goal.returns-in-Fails
 returns-in-Fails c =
@@ -47,8 +47,8 @@ returns-in-Fails c =
     (record {
       framed = omega arith;
       at_check = c.if-kinds-top-ne-KIND_CHECK.false;
-      fails = fails_says (rw c.looked-in-Fails-1.given.1 at c.look_full.ensures);
+      fails = fails_says (rw c.in-Fails.is at c.look_full.ensures);
     })
 
 pub returns-in-Refused : goal.returns-in-Refused
-returns-in-Refused c = absurd (never_refuses (rw c.why-1.given.1 at c.look_full.ensures))
+returns-in-Refused c = absurd (never_refuses (rw c.in-Refused.is at c.look_full.ensures))

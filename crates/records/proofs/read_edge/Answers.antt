@@ -7,16 +7,16 @@ use borrow.Author.Rules.{rules}
 use Rattle.records.proofs.read_edge.Goals as goal
 
 pub returns-in_default : goal.returns-in_default
-returns-in_default c = sym (ap edge_row_of (edge_none _ _ (three_told _ (sym c.read_three.ensures ∙ c.enum_told-1.given.1))))
+returns-in_default c = sym (ap edge_row_of (edge_none _ _ (three_told _ (sym c.read_three.ensures ∙ c.in_default.is))))
 
 pub overflow_cast-result : goal.overflow_cast-result
-overflow_cast-result c = omega (arith, (three_low _ way _ _ (three_told _ (sym c.read_three.ensures ∙ c.three-1.given.1))).a_low)
+overflow_cast-result c = omega (arith, (three_low _ way _ _ (three_told _ (sym c.read_three.ensures ∙ c.in-At.is))).a_low)
 
 pub overflow_cast-result-2 : goal.overflow_cast-result-2
-overflow_cast-result-2 c = omega (arith, (three_low _ way _ _ (three_told _ (sym c.read_three.ensures ∙ c.three-1.given.1))).b_low)
+overflow_cast-result-2 c = omega (arith, (three_low _ way _ _ (three_told _ (sym c.read_three.ensures ∙ c.in-At.is))).b_low)
 
 pub overflow_cast-result-3 : goal.overflow_cast-result-3
-overflow_cast-result-3 c = omega (arith, (three_low _ way _ _ (three_told _ (sym c.read_three.ensures ∙ c.three-1.given.1))).c_low)
+overflow_cast-result-3 c = omega (arith, (three_low _ way _ _ (three_told _ (sym c.read_three.ensures ∙ c.in-At.is))).c_low)
 
 pub returns : goal.returns
-returns c = sym (ap edge_row_of (edge_all _ _ (three_told _ (sym c.read_three.ensures ∙ c.three-1.given.1))))
+returns c = sym (ap edge_row_of (edge_all _ _ (three_told _ (sym c.read_three.ensures ∙ c.in-At.is))))

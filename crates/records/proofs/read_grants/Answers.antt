@@ -7,19 +7,19 @@ use borrow.Author.Rules.{rules}
 use Rattle.records.proofs.read_grants.Goals as goal
 
 pub returns-in_default : goal.returns-in_default
-returns-in_default c = sym (ap granted_of (grants_none _ _ (sym c.before_end-piece.ensures ∙ c.enum_told-1.given.1)))
+returns-in_default c = sym (ap granted_of (grants_none _ _ (sym c.before_end-piece.ensures ∙ c.in_default.is)))
 
 pub returns-in-Held : goal.returns-in-Held
 returns-in-Held c =
-    sym (grants_part _ _ (sym c.before_end-piece.ensures ∙ c.piece-1.given.1)
-    ∙ ap (λ (x : Listed). granted_by x c.piece-1.given.0.1.1.0) (sym (ap (λ l. held_of (members_of 4 l)) c.field.ensures) ∙ sym c.list.ensures ∙ c.bits-1.given.1))
+    sym (grants_part _ _ (sym c.before_end-piece.ensures ∙ c.in-Part.is)
+    ∙ ap (λ (x : Listed). granted_by x c.in-Part.next) (sym (ap (λ l. held_of (members_of 4 l)) c.field.ensures) ∙ sym c.list.ensures ∙ c.in-Held.is))
 
 pub returns-in-Beyond : goal.returns-in-Beyond
 returns-in-Beyond c =
-    sym (grants_part _ _ (sym c.before_end-piece.ensures ∙ c.piece-1.given.1)
-    ∙ ap (λ (x : Listed). granted_by x c.piece-1.given.0.1.1.0) (sym (ap (λ l. held_of (members_of 4 l)) c.field.ensures) ∙ sym c.list.ensures ∙ c.enum_told-in-Beyond-1.given.1))
+    sym (grants_part _ _ (sym c.before_end-piece.ensures ∙ c.in-Part.is)
+    ∙ ap (λ (x : Listed). granted_by x c.in-Part.next) (sym (ap (λ l. held_of (members_of 4 l)) c.field.ensures) ∙ sym c.list.ensures ∙ c.in-Beyond.is))
 
 pub returns-in-NoList : goal.returns-in-NoList
 returns-in-NoList c =
-    sym (grants_part _ _ (sym c.before_end-piece.ensures ∙ c.piece-1.given.1)
-    ∙ ap (λ (x : Listed). granted_by x c.piece-1.given.0.1.1.0) (sym (ap (λ l. held_of (members_of 4 l)) c.field.ensures) ∙ sym c.list.ensures ∙ c.enum_told-in-NoList-1.given.1))
+    sym (grants_part _ _ (sym c.before_end-piece.ensures ∙ c.in-Part.is)
+    ∙ ap (λ (x : Listed). granted_by x c.in-Part.next) (sym (ap (λ l. held_of (members_of 4 l)) c.field.ensures) ∙ sym c.list.ensures ∙ c.in-NoList.is))

@@ -6,7 +6,7 @@ use Rattle.refusals.proofs.put_refusal.Goals as goal
 
 pub returns : goal.returns
 returns c =
-    let short = lent c.well-formed.0.0 in
-    let first = puts_then short c.put_all_lem.ensures c.put-number.ensures in
-    let second = puts_then (lent_after short first) c.put.ensures c.put-number2.ensures in
+    let short = lent c.well_formed.0.0 in
+    let first = puts_then short c.put_all-a.ensures c.put_number-b.ensures in
+    let second = puts_then (lent_after short first) c.put-c.ensures c.put_number-d.ensures in
     puts_then short (puts_then short first second) c.put_all.ensures

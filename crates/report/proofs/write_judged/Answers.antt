@@ -4,7 +4,7 @@ use Rattle.report.proofs.write_judged.Goals as goal
 
 pub returns-in-Accepted : goal.returns-in-Accepted
 returns-in-Accepted c =
-    rw c.enum_told-1.given.1 (when_accepted c.write_result.ensures)
+    rw c.in-Accepted.is (when_accepted c.write_result.ensures)
 
 pub returns-in-Refused : goal.returns-in-Refused
-returns-in-Refused c = rw c.judged-1.given.1 when_refused
+returns-in-Refused c = rw c.in-Refused.is when_refused

@@ -12,10 +12,10 @@ abbrev tested : tie.Else2 → tie.Else1
 tested c = c.before.before.before.before.before.before.before.before
 
 pub returns-then-not-can_gather : goal.returns-then-not-can_gather
-returns-then-not-can_gather c = unsent (says_false c.can_gather.ensures c.if-not-can_gather.true)
+returns-then-not-can_gather c = unsent (says_false c.can_gather.ensures (c.if-not-can_gather.true))
 
 pub returns-then-not-begin : goal.returns-then-not-begin
-returns-then-not-begin c = unbegun_by _ _ _ _ _ _ _ _ _ _ _ c.if-not-begin.true c.begin.ensures
+returns-then-not-begin c = unbegun_by _ _ _ _ _ _ _ _ _ _ _ (c.if-not-begin.true) c.begin.ensures
 
 pub gather_all-requires : goal.gather_all-requires
 gather_all-requires c = let t = tested (goal.at.gather_all-requires c).Else-not-begin in says_true t.before.can-gather.ensures (not-false _ t.if1.left)
@@ -23,4 +23,4 @@ gather_all-requires c = let t = tested (goal.at.gather_all-requires c).Else-not-
 pub returns : goal.returns
 returns c =
     let t = tested (goal.at.returns c).Else-not-begin in
-    gathered_by _ _ _ _ _ _ _ _ _ _ _ _ _ (says_true t.before.can-gather.ensures (not-false _ t.if1.left)) c.if-not-begin.false c.begin.ensures c.gather_all.ensures
+    gathered_by _ _ _ _ _ _ _ _ _ _ _ _ _ (says_true t.before.can-gather.ensures (not-false _ t.if1.left)) (c.if-not-begin.false) c.begin.ensures c.gather_all.ensures

@@ -13,7 +13,7 @@ pub out_of-requires : goal.out_of-requires
 out_of-requires c = carriable _ _ _ _ _ _ _ _ _ _ _ c.requires _ c.loop-e-test.true
 
 pub loop-e-preserved : goal.loop-e-preserved
-loop-e-preserved c = filled_more _ _ _ _ _ _ c.loop-e-test.true (omega arith) c.out_of_lem.ensures c.loop-e.invariant
+loop-e-preserved c = filled_more _ _ _ _ _ _ c.loop-e-test.true (omega arith) c.out_of.ensures c.loop-e.invariant
 
 pub returns : goal.returns
 returns c =

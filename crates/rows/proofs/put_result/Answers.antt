@@ -5,4 +5,4 @@ use Rattle.rows.proofs.put_result.Goals as goal
 
 pub returns : goal.returns
 returns c =
-    puts_then (lent c.well-formed.0.0) c.put_all_lem.ensures c.put_rows.ensures
+    puts_then (lent c.well_formed.0.0) c.put_all-at.ensures c.put_rows.ensures

@@ -4,7 +4,7 @@ use borrow.Author.Rules.{rules}
 use Rattle.scan.proofs.add.Goals as goal
 
 pub returns-then-v-lt-SET_BITS : goal.returns-then-v-lt-SET_BITS
-returns-then-v-lt-SET_BITS c = sym (with_low c.set-1.given.1 c.if-v-lt-SET_BITS.true)
+returns-then-v-lt-SET_BITS c = sym (with_low c.in-Held.is c.if-v-lt-SET_BITS.true)
 
 pub returns-else-v-lt-SET_BITS : goal.returns-else-v-lt-SET_BITS
-returns-else-v-lt-SET_BITS c = sym (with_high c.set-1.given.1 c.if-v-lt-SET_BITS.false)
+returns-else-v-lt-SET_BITS c = sym (with_high c.in-Held.is c.if-v-lt-SET_BITS.false)

@@ -35,7 +35,7 @@ to_end c = to-way c.before.before
 module _ (c : Else-not-has_room) where
 
   room : c.args.at + 40 ≤ length c.args.s.now
-  room = says_true c.has_room.ensures c.if-not-has_room.false
+  room = says_true c.has_room.ensures (not-false _ c.if-not-has_room.false)
 
 -- what the three numbers are below
 module _ (c : Else-not-ends_empty) where
@@ -113,7 +113,7 @@ overflow_add-result c = omega (arith, room (to_end (goal.at.overflow_add-result 
 
 pub returns : goal.returns
 returns c =
-    let ends = shows c.ends_empty.ensures c.if-not-ends_empty.false in
+    let ends = shows c.ends_empty.ensures (c.if-not-ends_empty.false) in
     quick_known
     (sym (ap edge_row_of (edge_all _ _ (three_all _ _ _ _
     (letter_form (Tag 69) _ _ 69 0 (omega arith) (tag_says 69) (sym c.short_letter.ensures ∙ c.if-short_letter-ne69.left))

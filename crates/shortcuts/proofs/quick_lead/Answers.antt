@@ -33,7 +33,7 @@ to-marks c = to-check c.before.before
 module _ (c : Else-not-has_room) where
 
   room : c.args.at + 40 ≤ length c.args.s.now
-  room = says_true c.has_room.ensures c.if-not-has_room.false
+  room = says_true c.has_room.ensures (not-false _ c.if-not-has_room.false)
 
 pub returns-then-not-has_room : goal.returns-then-not-has_room
 returns-then-not-has_room c = unknown

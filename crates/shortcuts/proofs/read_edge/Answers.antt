@@ -6,4 +6,4 @@ use borrow.Author.Rules.{rules}
 use Rattle.shortcuts.proofs.read_edge.Goals as goal
 
 pub returns-in-At : goal.returns-in-At
-returns-in-At c = quick_right c.quick_edge.ensures c.edge-1.given.1 (λ e. let z : ◌≡◌ {A = ℕ} 0 1 = cc in omega arith)
+returns-in-At c = quick_right c.quick_edge.ensures c.in-At.is (λ e. let z : ◌≡◌ {A = ℕ} 0 1 = cc in omega arith)

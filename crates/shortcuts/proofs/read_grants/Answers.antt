@@ -6,7 +6,7 @@ use borrow.Author.Rules.{rules}
 use Rattle.shortcuts.proofs.read_grants.Goals as goal
 
 pub returns-in-Held : goal.returns-in-Held
-returns-in-Held c = quick_right c.quick_grants.ensures c.bits-1.given.1 (λ e. let z : ◌≡◌ {A = ℕ} 0 1 = cc in omega arith)
+returns-in-Held c = quick_right c.quick_grants.ensures c.in-Held.is (λ e. let z : ◌≡◌ {A = ℕ} 0 1 = cc in omega arith)
 
 pub returns-in-Beyond : goal.returns-in-Beyond
-returns-in-Beyond c = quick_right c.quick_grants.ensures c.next-1.given.1 (λ e. let z : ◌≡◌ {A = ℕ} 0 1 = cc in omega arith)
+returns-in-Beyond c = quick_right c.quick_grants.ensures c.in-Beyond.is (λ e. let z : ◌≡◌ {A = ℕ} 0 1 = cc in omega arith)

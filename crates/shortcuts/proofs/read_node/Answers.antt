@@ -6,25 +6,25 @@ use borrow.Author.Rules.{rules}
 use Rattle.shortcuts.proofs.read_node.Goals as goal
 
 pub returns-in_default : goal.returns-in_default
-returns-in_default c = sym (ap node_row_of (node_none _ _ _ (lead_told _ (sym c.read_lead.ensures ∙ c.enum_told-1.given.1))))
+returns-in_default c = sym (ap node_row_of (node_none _ _ _ (lead_told _ (sym c.read_lead.ensures ∙ c.in_default.is))))
 
 pub overflow_cast-result : goal.overflow_cast-result
-overflow_cast-result c = omega (arith, (lead_low _ _ _ (lead_told _ (sym c.read_lead.ensures ∙ c.lead-1.given.1))).kind_low)
+overflow_cast-result c = omega (arith, (lead_low _ _ _ (lead_told _ (sym c.read_lead.ensures ∙ c.in-At.is))).kind_low)
 
 pub overflow_cast-result-in-Held : goal.overflow_cast-result-in-Held
-overflow_cast-result-in-Held c = omega (arith, (lead_low _ _ _ (lead_told _ (sym c.read_lead.ensures ∙ c.lead-1.given.1))).check_low)
+overflow_cast-result-in-Held c = omega (arith, (lead_low _ _ _ (lead_told _ (sym c.read_lead.ensures ∙ c.in-At.is))).check_low)
 
 pub overflow_cast-result-in-Held-2 : goal.overflow_cast-result-in-Held-2
-overflow_cast-result-in-Held-2 c = omega (arith, (lead_low _ _ _ (lead_told _ (sym c.read_lead.ensures ∙ c.lead-1.given.1))).marks_low)
+overflow_cast-result-in-Held-2 c = omega (arith, (lead_low _ _ _ (lead_told _ (sym c.read_lead.ensures ∙ c.in-At.is))).marks_low)
 
 pub overflow_cast-result-in-Held-3 : goal.overflow_cast-result-in-Held-3
-overflow_cast-result-in-Held-3 c = omega (arith, (lead_low _ _ _ (lead_told _ (sym c.read_lead.ensures ∙ c.lead-1.given.1))).marks_low)
+overflow_cast-result-in-Held-3 c = omega (arith, (lead_low _ _ _ (lead_told _ (sym c.read_lead.ensures ∙ c.in-At.is))).marks_low)
 
 pub returns-in-Held : goal.returns-in-Held
-returns-in-Held c = sym (node_held _ _ _ (lead_told _ (sym c.read_lead.ensures ∙ c.lead-1.given.1)) (granted_held _ (sym c.read_grants.ensures ∙ c.bits-1.given.1)))
+returns-in-Held c = sym (node_held _ _ _ (lead_told _ (sym c.read_lead.ensures ∙ c.in-At.is)) (granted_held _ (sym c.read_grants.ensures ∙ c.in-Held.is)))
 
 pub returns-in-Beyond : goal.returns-in-Beyond
-returns-in-Beyond c = sym (node_beyond _ _ _ (lead_told _ (sym c.read_lead.ensures ∙ c.lead-1.given.1)) (granted_beyond _ (sym c.read_grants.ensures ∙ c.next-1.given.1)))
+returns-in-Beyond c = sym (node_beyond _ _ _ (lead_told _ (sym c.read_lead.ensures ∙ c.in-At.is)) (granted_beyond _ (sym c.read_grants.ensures ∙ c.in-Beyond.is)))
 
 pub returns-in-Wrong : goal.returns-in-Wrong
-returns-in-Wrong c = sym (ap node_row_of (node_bare _ _ _ (lead_told _ (sym c.read_lead.ensures ∙ c.lead-1.given.1)) (granted_wrong _ (sym c.read_grants.ensures ∙ c.enum_told-in-Wrong-1.given.1))))
+returns-in-Wrong c = sym (ap node_row_of (node_bare _ _ _ (lead_told _ (sym c.read_lead.ensures ∙ c.in-At.is)) (granted_wrong _ (sym c.read_grants.ensures ∙ c.in-Wrong.is))))

@@ -62,12 +62,12 @@ loop-cur-preserved c =
     let i = turn (goal.at.loop-cur-preserved c).After-shared_slice_known-in-loop-cur-1 in
     let here = i.before.loop in
     let a = (arrived (goal.at.loop-cur-preserved c).After-shared_slice_known-in-loop-cur-1).arrive in (
-      sent_one _ _ _ _ _ _ _ _ _ _ (start i).pre.0.down _ _ _ (edge i) _ _ _ (omega arith) (own i) (brought (arrived (goal.at.loop-cur-preserved c).After-shared_slice_known-in-loop-cur-1)).bring.ensures a.ensures ∙ here.inv.0,
+      sent_one _ _ _ _ _ _ _ _ _ _ (start i).pre.0.down _ _ _ (edge i) _ _ _ (omega arith) (own i) (brought (arrived (goal.at.loop-cur-preserved c).After-shared_slice_known-in-loop-cur-1)).bring.ensures a.ensures ∙ at.inv.0,
       omega (arith, own i, low i),
-      a.kept.0 ∙ here.inv.2,
-      a.kept.1.0 ∙ here.inv.3,
-      a.kept.1.1.0 ∙ here.inv.4,
-      a.kept.1.1.1.0 ∙ here.inv.5,
+      a.kept.0 ∙ at.inv.2,
+      a.kept.1.0 ∙ at.inv.3,
+      a.kept.1.1.0 ∙ at.inv.4,
+      a.kept.1.1.1.0 ∙ at.inv.5,
     )
 
 pub shape_of-ins : goal.shape_of-ins

@@ -4,8 +4,8 @@ use borrow.Author.Rules.{rules}
 use Rattle.sums.proofs.deliver.Goals as goal
 
 pub returns-then-not-counted : goal.returns-then-not-counted
-returns-then-not-counted c = uncounted _ _ _ _ _ _ _ _ c.merge_at-more.ensures c.if-not-counted.true
+returns-then-not-counted c = uncounted _ _ _ _ _ _ _ _ c.merge_at-more.ensures (c.if-not-counted.true)
 
 pub returns : goal.returns
 returns c =
-    counted_too _ _ _ _ _ _ _ _ c.merge_at-more.ensures c.if-not-counted.false _ _ c.merge_at-passing.ensures
+    counted_too _ _ _ _ _ _ _ _ c.merge_at-more.ensures (c.if-not-counted.false) _ _ c.merge_at-passing.ensures

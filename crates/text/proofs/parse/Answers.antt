@@ -14,10 +14,10 @@ use Rattle.text.proofs.parse.Goals as goal
 -- what is known once the first row was read, and is right
 module _ (c : In-At-2) where
 
-  header : header_at c.args.s.now c.args.from ≡ got c.counts-1.given.0.0 c.counts-1.given.0.1.0
-  header = header_told _ (sym c.read_header.ensures ∙ c.counts-1.given.1)
+  header : header_at c.args.s.now c.args.from ≡ got c.in-At.counts c.in-At.next
+  header = header_told _ (sym c.read_header.ensures ∙ c.in-At.is)
 
-  ranges : Ranges c.counts-1.given.0.0
+  ranges : Ranges c.in-At.counts
   ranges = header_ranges _ _ header
 
 abbrev to-counts : tie.After-read-nodes → tie.After-counts
@@ -27,7 +27,7 @@ abbrev past-to-read : tie.After-ran2 → tie.After-read-nodes
 past-to-read c = c.before.before
 
 pub returns-in_default : goal.returns-in_default
-returns-in_default c = parse_none _ _ _ (header_told _ (sym c.read_header.ensures ∙ c.enum_told-1.given.1))
+returns-in_default c = parse_none _ _ _ (header_told _ (sym c.read_header.ensures ∙ c.in_default.is))
 
 pub overflow_add-first : goal.overflow_add-first
 overflow_add-first c = omega (arith, c.requires)
@@ -47,9 +47,9 @@ parse_edges-requires c =
 
 pub returns-in-Stop : goal.returns-in-Stop
 returns-in-Stop c =
-    parse_stop _ _ _ (header (to-counts (goal.at.returns-in-Stop c).After-read_nodes-ran)) c.read_nodes-ran.ensures.answer c.ran-1.given.1
+    parse_stop _ _ _ (header (to-counts (goal.at.returns-in-Stop c).After-read_nodes-ran)) c.read_nodes-ran.ensures.answer c.in-Stop.is
 
 pub returns-in-Past : goal.returns-in-Past
 returns-in-Past c =
     let read = past-to-read (goal.at.returns-in-Past c).In-Past-2 in
-    parse_past _ _ _ (header (to-counts read)) read.read-nodes.ensures c.ran-in-Past-1.given.1 c.parse_edges.ensures
+    parse_past _ _ _ (header (to-counts read)) read.read-nodes.ensures c.in-Past.is c.parse_edges.ensures

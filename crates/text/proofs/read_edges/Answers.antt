@@ -14,14 +14,14 @@ pub returns-in_default : goal.returns-in_default
 returns-in_default c =
     let v = c.loop-i.invariant in
     let h = c.loop-i-test.true in
-    let w = edge_told _ (sym c.read_edge.ensures ∙ c.enum_told-1.given.1) in
+    let w = edge_told _ (sym c.read_edge.ensures ∙ c.in_default.is) in
     record { answer = end_stop _ _ _ _ h w v.0; so = record { froms = slot_stop _ _ _ v.1 h w; tos = slot_stop _ _ _ v.2 h w; ways = slot_stop _ _ _ v.3 h w } }
 
 pub loop-i-preserved : goal.loop-i-preserved
 loop-i-preserved c =
-    let h = c.loop-test.true in
-    let v = c.loop.invariant in
-    let w = edge_told _ (sym c.read-edge.ensures ∙ c.edge.given.1) in
+    let h = c.loop-i-test.true in
+    let v = c.loop-i.invariant in
+    let w = edge_told _ (sym c.read_edge.ensures ∙ c.in-At.is) in
     (end_step _ _ _ _ h w v.0, slot_step _ _ _ v.1 h w, slot_step _ _ _ v.2 h w, slot_step _ _ _ v.3 h w)
 
 pub returns : goal.returns

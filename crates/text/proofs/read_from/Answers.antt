@@ -16,7 +16,7 @@ module _ (c : In_default) where
   lent = lent_of c.args.kinds.now c.args.checks.now c.args.privileged.now c.args.entries.now c.args.grants.now c.args.froms.now c.args.tos.now c.args.ways.now
 
   sizes : Room lent × (reading_from lent c.args.text.now c.args.from c.args.row ≡ on_meaning (text_at c.args.text.now c.args.from c.args.row))
-  sizes = sizes_fit lent c.args.text.now c.args.from c.args.row c.judge_sizes-judged.ensures c.enum_told-1.given.1
+  sizes = sizes_fit lent c.args.text.now c.args.from c.args.row c.judge_sizes-judged.ensures c.in_default.is
 
 abbrev to-fit : tie.After-read-sized → tie.After-enum-told
 to-fit c = c.before.before.before.before.before.before.before.before.before
@@ -25,7 +25,7 @@ abbrev to_read : tie.After-slice-known16 → tie.After-read-sized
 to_read c = c.before.before.before.before.before.before.before.before.before.before.before.before.before.before.before.before
 
 pub returns-in-Refused : goal.returns-in-Refused
-returns-in-Refused c = refuses (sizes_refused _ _ _ _ c.judge_sizes-judged.ensures c.judged-1.given.1)
+returns-in-Refused c = refuses (sizes_refused _ _ _ _ c.judge_sizes-judged.ensures c.in-Refused.is)
 
 pub read_sized-requires : goal.read_sized-requires
 read_sized-requires c = (omega (arith, c.ranges.row), (sizes (goal.at.read_sized-requires c).In_default).0)

@@ -21,15 +21,15 @@ loop-i-init c = (end_start _ _ _ _, slot_start _ _ _ _ _, slot_start _ _ _ _ _, 
 pub returns-in_default : goal.returns-in_default
 returns-in_default c =
     let h = c.loop-i-test.true in
-    let w = row (goal.at.returns-in_default c).After-read_node c.enum_told-1.given.1 in
+    let w = row (goal.at.returns-in_default c).After-read_node c.in_default.is in
     let v = c.loop-i.invariant in
     record { answer = end_stop _ _ _ _ h w v.0; so = record { kinds = slot_stop _ _ _ v.1 h w; checks = slot_stop _ _ _ v.2 h w; privileged = slot_stop _ _ _ v.3 h w; entries = slot_stop _ _ _ v.4 h w; grants = slot_stop _ _ _ v.5 h w } }
 
 pub loop-i-preserved : goal.loop-i-preserved
 loop-i-preserved c =
-    let h = c.loop-test.true in
-    let v = c.loop.invariant in
-    let w = row (goal.at.loop-i-preserved c).After-way_told-in-loop-i-1 c.node.given.1 in
+    let h = c.loop-i-test.true in
+    let v = c.loop-i.invariant in
+    let w = row (goal.at.loop-i-preserved c).After-way_told-in-loop-i-1 c.in-At.is in
     (end_step _ _ _ _ h w v.0, slot_step _ _ _ v.1 h w, slot_step _ _ _ v.2 h w, slot_step _ _ _ v.3 h w, slot_step _ _ _ v.4 h w, slot_step _ _ _ v.5 h w)
 
 pub returns : goal.returns

@@ -14,7 +14,7 @@ module _ (c : In-Counted-2) where
   -- the arrays keep their lengths
   room : Room (lent_of c.parse-parsed.last.0 c.parse-parsed.last.1.0 c.parse-parsed.last.1.1.0 c.parse-parsed.last.1.1.1.0 c.parse-parsed.last.1.1.1.1.0 c.parse-parsed.last.1.1.1.1.1.0 c.parse-parsed.last.1.1.1.1.1.1.0 c.parse-parsed.last.1.1.1.1.1.1.1.0)
   room =
-      counted_room _ _ _ c.parse-parsed.ensures c.parsed-in-Counted-1.given.1
+      counted_room _ _ _ c.parse-parsed.ensures c.in-Counted.is
       (record { nodes = record { kinds = refl; checks = refl; privileged = refl; entries = refl; grants = refl }; edges = record { froms = refl; tos = refl; ways = refl } })
 
 abbrev to-counted : tie.After-hand-over → tie.After-parsed2
@@ -51,7 +51,7 @@ pub slice_bounds-hand_over-end-in-Counted-7 : goal.slice_bounds-hand_over-end-in
 slice_bounds-hand_over-end-in-Counted-7 c = sym (room (goal.at.slice_bounds-hand_over-end-in-Counted-7 c).In-Counted-2).edges.ways
 
 pub returns-in-Wrong : goal.returns-in-Wrong
-returns-in-Wrong c = wrong_tells _ _ _ c.parse-parsed.ensures c.parsed-1.given.1
+returns-in-Wrong c = wrong_tells _ _ _ c.parse-parsed.ensures c.in-Wrong.is
 
 pub shape_of-kinds : goal.shape_of-kinds
 shape_of-kinds c = (to-handed (goal.at.shape_of-kinds c).After-tell).hand-over.auto.1.1.1.1.1.1.1.1.1.0

@@ -5,7 +5,7 @@ use borrow.Author.Rules.{rules}
 use Rattle.text.proofs.tell.Goals as goal
 
 pub returns-in-Accepted : goal.returns-in-Accepted
-returns-in-Accepted c = sym (ap (λ (j : Judged). told j c.args.size) c.enum_told-1.given.1)
+returns-in-Accepted c = sym (ap (λ (j : Judged). told j c.args.size) c.in-Accepted.is)
 
 pub returns-in-Refused : goal.returns-in-Refused
-returns-in-Refused c = sym (ap (λ (j : Judged). told j c.args.size) c.judged-1.given.1)
+returns-in-Refused c = sym (ap (λ (j : Judged). told j c.args.size) c.in-Refused.is)

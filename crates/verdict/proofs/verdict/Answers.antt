@@ -8,58 +8,58 @@ use borrow.Author.Rules.{rules}
 use Rattle.verdict.proofs.verdict.Goals as goal
 
 pub returns-then-not-sets_long : goal.returns-then-not-sets_long
-returns-then-not-sets_long c = refused (sets (says_false c.sets_long.ensures c.if-not-sets_long.taken))
+returns-then-not-sets_long c = refused (sets (says_false c.sets_long.ensures (c.if-not-sets_long.taken)))
 
 pub returns-in-Refused : goal.returns-in-Refused
 returns-in-Refused c =
     refused
     (graph
-    (says_true c.sets_long.ensures c.if-not-sets_long.left)
-    (refused_is (rw c.judged-1.given.1 at c.check-judged.ensures)))
+    (says_true c.sets_long.ensures (c.if-not-sets_long.left))
+    (refused_is (rw c.in-Refused.is at c.check-judged.ensures)))
 
 pub returns-then-n-node : goal.returns-then-n-node
 returns-then-n-node c =
     refused
     (asked
-    (says_true c.sets_long.ensures c.if-not-sets_long.left)
-    (accepted_is (rw c.enum_told-1.given.1 at c.check-judged.ensures))
+    (says_true c.sets_long.ensures (c.if-not-sets_long.left))
+    (accepted_is (rw c.in_default.is at c.check-judged.ensures))
     (λ h. omega arith))
 
 pub bounds-kinds-node : goal.bounds-kinds-node
 bounds-kinds-node c =
-    let a = accepted_is (rw c.enum_told-1.given.1 at c.check-judged.ensures) in
+    let a = accepted_is (rw c.in_default.is at c.check-judged.ensures) in
     omega (arith, a.shape.nodes.kinds)
 
 pub returns-then-kinds-node-ne-KIND_CHECK : goal.returns-then-kinds-node-ne-KIND_CHECK
 returns-then-kinds-node-ne-KIND_CHECK c =
     refused
     (no_check
-    (says_true c.sets_long.ensures c.if-not-sets_long.left)
-    (accepted_is (rw c.enum_told-1.given.1 at c.check-judged.ensures))
+    (says_true c.sets_long.ensures (c.if-not-sets_long.left))
+    (accepted_is (rw c.in_default.is at c.check-judged.ensures))
     (omega arith)
     (ne_eqb _ 2 c.if-kinds-node-ne-KIND_CHECK.taken))
 
 pub offset_bounds-checks-node : goal.offset_bounds-checks-node
 offset_bounds-checks-node c =
-    let a = accepted_is (rw c.enum_told-1.given.1 at c.check-judged.ensures) in
+    let a = accepted_is (rw c.in_default.is at c.check-judged.ensures) in
     omega (arith, a.shape.ranges.n_high)
 
 pub bounds-checks-node : goal.bounds-checks-node
 bounds-checks-node c =
-    let a = accepted_is (rw c.enum_told-1.given.1 at c.check-judged.ensures) in
+    let a = accepted_is (rw c.in_default.is at c.check-judged.ensures) in
     omega (arith, a.shape.nodes.checks)
 
 pub rule-requires : goal.rule-requires
 rule-requires c =
-    let s = says_true c.sets_long.ensures c.if-not-sets_long.left in
+    let s = says_true c.sets_long.ensures (c.if-not-sets_long.left) in
     search rules
 
 pub returns : goal.returns
 returns c =
     given {v = c.rule.result}
     (record {
-      long = says_true c.sets_long.ensures c.if-not-sets_long.left;
-      acceptable = accepted_is (rw c.enum_told-1.given.1 at c.check-judged.ensures);
+      long = says_true c.sets_long.ensures (c.if-not-sets_long.left);
+      acceptable = accepted_is (rw c.in_default.is at c.check-judged.ensures);
       below = omega arith;
       at_check = eq-eqb _ 2 c.if-kinds-node-ne-KIND_CHECK.left;
       number = c.rule.ensures;

@@ -7,4 +7,4 @@ use Rattle.writer.proofs.put_long.Goals as goal
 pub returns : goal.returns
 returns c =
     let d = c.decimal-count in
-    rw (d.ensures.1.1 ∙ decimal_digits 20 _ _ d.ensures.1.0 (fewest_short _ _ d.ensures.1.0 (search rules))) at c.put_all.ensures
+    rw (d.ensures.digits ∙ decimal_digits 20 _ _ d.ensures.len (fewest_short _ _ d.ensures.len (search rules))) at c.put_all.ensures

@@ -1,8 +1,8 @@
 use Rattle.flow.specs.Walk.{start_past}
 use mathlib.Core.Path.{sym, ◌∙◌}
-use mathlib.Core.Logic.{⊎_elim}
 use borrow.Author.Tests.{eq-eqb, ne_eqb}
 use borrow.Author.Rules.{rules}
+use Rattle.flow.proofs.first_passing.Goals.{then-entry-eq-MARKED+else-has, else-entry-eq-MARKED}
 use Rattle.flow.proofs.first_passing.Goals as goal
 
 pub returns-then-has : goal.returns-then-has
@@ -12,6 +12,7 @@ returns-then-has c = rw (eq-eqb _ 1 c.if-entry-eq-MARKED.true, sym c.has.ensures
 pub returns : goal.returns
 unfolding start_past
 returns c =
-    ⊎_elim (λ w. rw (eq-eqb _ 1 w.0.taken, sym w.1.ensures ∙ w.2.left) c.start.ensures)
-    (λ w. rw (ne_eqb _ 1 w.left) c.start.ensures)
-    c.if-entry-eq-MARKED.branch
+    elim c.if-entry-eq-MARKED.branch [
+      then-entry-eq-MARKED+else-has w ↦ rw (eq-eqb _ 1 w.if-entry-eq-MARKED.true, sym w.has.ensures ∙ w.if-has.false) c.start.ensures
+      | else-entry-eq-MARKED w ↦ rw (ne_eqb _ 1 w.if-entry-eq-MARKED.false) c.start.ensures
+    ]

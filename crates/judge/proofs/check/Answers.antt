@@ -5,7 +5,6 @@ use Rattle.graph.specs.Judge.{shape, node, refused}
 use Rattle.truth.specs.Truth.Tests.{says_true, says_false}
 use borrow.Author.Tests.{not-true, not-false}
 use borrow.Author.Rules.{rules}
-use Rattle.judge.proofs.check.Goals.{Else-e-m, Else-i-n, Else-not-has_shape}
 use Rattle.judge.proofs.check.Goals as goal
 
 pub returns-then-not-has_shape : goal.returns-then-not-has_shape
@@ -16,37 +15,26 @@ first_bad_node-i-requires c = let s = says_true c.has_shape.ensures (c.if-not-ha
 
 pub returns-then-i-n : goal.returns-then-i-n
 returns-then-i-n c =
-    let shaped : tie.Else1 = (goal.at.returns-then-i-n c).Else-not-has_shape in
-    refused (node (says_true shaped.before.has-shape.ensures (not-false _ shaped.if1.false)) c.if-i-n.true c.first_bad_node-i.ensures)
+    refused (node (says_true c.has_shape.ensures (c.if-not-has_shape.false)) c.if-i-n.true c.first_bad_node-i.ensures)
 
 pub first_bad_edge-e-requires : goal.first_bad_edge-e-requires
 first_bad_edge-e-requires c =
-    let shaped : tie.Else1 = (goal.at.first_bad_edge-e-requires c).Else-not-has_shape in
-    let s = says_true shaped.before.has-shape.ensures (not-false _ shaped.if1.false) in
+    let s = says_true c.has_shape.ensures (c.if-not-has_shape.false) in
     search rules
 
 pub returns-then-e-m : goal.returns-then-e-m
 returns-then-e-m c =
-    let nodes : tie.Else2 = (goal.at.returns-then-e-m c).Else-i-n in
-    let shaped : tie.Else1 = nodes.before.before in
-    edge_given _ (says_true shaped.before.has-shape.ensures (not-false _ shaped.if1.false)) nodes.before.first-bad-node.ensures nodes.if2.false c.if-e-m.true c.first_bad_edge-e.ensures
+    edge_given _ (says_true c.has_shape.ensures (c.if-not-has_shape.false)) c.first_bad_node-i.ensures c.if-i-n.false c.if-e-m.true c.first_bad_edge-e.ensures
 
 pub first_entry-requires : goal.first_entry-requires
 first_entry-requires c =
-    let shaped : tie.Else1 = (goal.at.first_entry-requires c).Else-not-has_shape in
-    let s = says_true shaped.before.has-shape.ensures (not-false _ shaped.if1.false) in
+    let s = says_true c.has_shape.ensures (c.if-not-has_shape.false) in
     search rules
 
 pub returns-then-first_entry-n : goal.returns-then-first_entry-n
 returns-then-first_entry-n c =
-    let edges : tie.Else3 = (goal.at.returns-then-first_entry-n c).Else-e-m in
-    let nodes : tie.Else2 = edges.before.before in
-    let shaped : tie.Else1 = nodes.before.before in
-    accepted_given _ (says_true shaped.before.has-shape.ensures (not-false _ shaped.if1.false)) nodes.before.first-bad-node.ensures nodes.if2.false edges.before.first-bad-edge.ensures edges.if3.false c.first_entry.ensures c.if-first_entry-n.true
+    accepted_given _ (says_true c.has_shape.ensures (c.if-not-has_shape.false)) c.first_bad_node-i.ensures c.if-i-n.false c.first_bad_edge-e.ensures c.if-e-m.false c.first_entry.ensures c.if-first_entry-n.true
 
 pub returns : goal.returns
 returns c =
-    let edges : tie.Else3 = (goal.at.returns c).Else-e-m in
-    let nodes : tie.Else2 = edges.before.before in
-    let shaped : tie.Else1 = nodes.before.before in
-    entry_given _ (says_true shaped.before.has-shape.ensures (not-false _ shaped.if1.false)) nodes.before.first-bad-node.ensures nodes.if2.false edges.before.first-bad-edge.ensures edges.if3.false c.first_entry.ensures c.if-first_entry-n.false
+    entry_given _ (says_true c.has_shape.ensures (c.if-not-has_shape.false)) c.first_bad_node-i.ensures c.if-i-n.false c.first_bad_edge-e.ensures c.if-e-m.false c.first_entry.ensures c.if-first_entry-n.false

@@ -11,7 +11,7 @@ use Rattle.frames.specs.Frames.{StackFits}
 use Rattle.machine.specs.Inspect.{Asks, graph, asked, stack}
 use Rattle.machine.specs.Steps.{Steps, StepRefuses}
 use borrow.Author.Rules.{rules}
-use Rattle.machine.proofs.step.Goals.{After-stack_fits, Else-not-stack_fits, In-At-2, In_default, In_default-1}
+use Rattle.machine.proofs.step.Goals.{After-stack_fits, Else-not-stack_fits, In_default, In_default-1}
 use Rattle.machine.proofs.step.Goals as goal
 
 module _ (c : In_default) where
@@ -54,12 +54,10 @@ find_place-requires c =
 
 pub move_to-requires : goal.move_to-requires
 move_to-requires c =
-    let found : tie.After-place = (goal.at.move_to-requires c).In-At-2 in
-    let tested : tie.Else2 = found.before.before.before.before in
-    let f = fits tested in
-    let a = (accepted (told tested)).shape in
+    let f = fits (goal.at.move_to-requires c).After-stack_fits in
+    let a = (accepted (goal.at.move_to-requires c).In_default).shape in
     let n = a.nodes in
-    let p = place_low (rw found.place.given.1 at found.before.before.find-place.ensures) in (
+    let p = place_low (rw c.in-At.is at c.find_place.ensures) in (
       (
         f.held,
         omega (arith, f.held, f.slice),
@@ -77,5 +75,4 @@ returns-in-Nowhere c = Steps.refused (nowhere_refuses _ (asks (goal.at.returns-i
 
 pub returns-in-At : goal.returns-in-At
 returns-in-At c =
-    let found : tie.After-place = (goal.at.returns-in-At c).In-At-2 in
-    takes_steps _ (asks found.before.before.before.before) (rw found.place.given.1 at found.before.before.find-place.ensures) c.move_to.ensures
+    takes_steps _ (asks (goal.at.returns-in-At c).After-stack_fits) (rw c.in-At.is at c.find_place.ensures) c.move_to.ensures

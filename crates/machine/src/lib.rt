@@ -42,8 +42,8 @@ fn look_full(
     height: usize,
     p: usize,
 ) -> Inspection
-    requires height_in_bounds { (height ≤ length stack.now) × (height ≤ 1024) × (length privileged.now ≡ length grants.now) }
-    requires all { All (Frame (length grants.now) stack.now) height }
+    requires sizes { (height ≤ length stack.now) × (height ≤ 1024) × (length privileged.now ≡ length grants.now) }
+    requires frames { All (Frame (length grants.now) stack.now) height }
     ensures { SaysSo result (full (rights privileged.now grants.now) p (stack_of stack.now height)) }
 {
     let mut h = height;
@@ -63,8 +63,8 @@ fn look_full(
 
 // Quick inspection, from the top down, by the denied and granted sets.
 fn look_quick(denied: &[u64], granted: &[u64], stack: &[u16], height: usize, p: usize) -> Inspection
-    requires height_in_bounds { (height ≤ length stack.now) × (height ≤ 1024) × (length granted.now ≡ length denied.now) }
-    requires all { All (Frame (length denied.now) stack.now) height }
+    requires sizes { (height ≤ length stack.now) × (height ≤ 1024) × (length granted.now ≡ length denied.now) }
+    requires frames { All (Frame (length denied.now) stack.now) height }
     ensures { SaysSo result (quick denied.now granted.now p (stack_of stack.now height)) }
 {
     let mut h = height;
@@ -168,8 +168,8 @@ fn find_place(
     height: usize,
     next: usize,
 ) -> Place
-    requires edges_long { EdgesLong m (edges_of (length froms.now) (length tos.now) (length ways.now)) × (next < length entries.now) × (height ≤ length stack.now) }
-    requires all { All (Frame (length kinds.now) stack.now) height }
+    requires sizes { EdgesLong m (edges_of (length froms.now) (length tos.now) (length ways.now)) × (next < length entries.now) × (height ≤ length stack.now) }
+    requires frames { All (Frame (length kinds.now) stack.now) height }
     ensures { Placed kinds.now entries.now m (edges_of froms.now tos.now ways.now) stack.now height next result }
 {
     if height == 0 {
@@ -214,8 +214,8 @@ fn top_denied(
     stack: &[u16],
     height: usize,
 ) -> bool
-    requires height_in_bounds { (height ≤ length stack.now) × (height ≤ 1024) × (length privileged.now ≡ length grants.now) × (length kinds.now ≡ length grants.now) × (length checks.now ≡ length grants.now) }
-    requires all { All (Frame (length grants.now) stack.now) height }
+    requires sizes { (height ≤ length stack.now) × (height ≤ 1024) × (length privileged.now ≡ length grants.now) × (length kinds.now ≡ length grants.now) × (length checks.now ≡ length grants.now) }
+    requires frames { All (Frame (length grants.now) stack.now) height }
     ensures { Says (Denied kinds.now checks.now (rights privileged.now grants.now) stack.now height) result }
 {
     if height == 0 {
@@ -243,8 +243,8 @@ fn move_to(
     privileged: &[u8],
     grants: &[u64],
 ) -> Stepped
-    requires height_in_bounds { (height ≤ length stack.old) × (height ≤ 1024) × (length privileged.now ≡ length grants.now) × (length kinds.now ≡ length grants.now) × (length checks.now ≡ length grants.now) × (next < 65536) × (place ≤ 1024) }
-    requires all { All (Frame (length grants.now) stack.old) height }
+    requires sizes { (height ≤ length stack.old) × (height ≤ 1024) × (length privileged.now ≡ length grants.now) × (length kinds.now ≡ length grants.now) × (length checks.now ≡ length grants.now) × (next < 65536) × (place ≤ 1024) }
+    requires frames { All (Frame (length grants.now) stack.old) height }
     ensures { Takes (Denied kinds.now checks.now (rights privileged.now grants.now) stack.old height) stack.old next place result stack.new }
 {
     if top_denied(kinds, checks, privileged, grants, stack, height) {

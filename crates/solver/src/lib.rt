@@ -190,7 +190,7 @@ fn walk(
     requires setting { Setting (graph_of (size_of k n m) kinds.now checks.now privileged.now entries.now grants.now froms.now tos.now ways.now) (system_of sure) wide.now any.now }
     requires walking { Walking (graph_of (size_of k n m) kinds.now checks.now privileged.now entries.now grants.now froms.now tos.now ways.now) (system_of sure) wide.now any.now (state ins.old past.old marks.old stack.old n) }
     requires linked { Linked froms.now n head.now prev.now m }
-    requires m_in_bounds { (m ≤ length wide.now) × (n ≤ length any.now) × (n ≤ length head.now) × (m ≤ length prev.now) }
+    requires lengths { (m ≤ length wide.now) × (n ≤ length any.now) × (n ≤ length head.now) × (m ≤ length prev.now) }
     ensures { Walking (graph_of (size_of k n m) kinds.now checks.now privileged.now entries.now grants.now froms.now tos.now ways.now) (system_of sure) wide.now any.now (state ins.new past.new marks.new stack.new 0) }
 {
     let mut top = n;
@@ -228,8 +228,8 @@ fn run(
 )
     requires setting { Setting (graph_of size kinds.now checks.now privileged.now entries.now grants.now froms.now tos.now ways.now) (system_of sure) wide.now any.now }
     requires linked { Linked froms.now size.n head.now prev.now size.m }
-    requires m_in_bounds { (size.m ≤ length wide.now) × (size.n ≤ length any.now) × (size.n ≤ length head.now) × (size.m ≤ length prev.now) }
-    requires m_in_bounds_2 { size.m ≤ length out.old }
+    requires lengths { (size.m ≤ length wide.now) × (size.n ≤ length any.now) × (size.n ≤ length head.now) × (size.m ≤ length prev.now) }
+    requires lengths { size.m ≤ length out.old }
     ensures ins_len { (length ins.new ≡ 1024) × (length past.new ≡ 1024) }
     ensures settled { Settled (graph_of size kinds.now checks.now privileged.now entries.now grants.now froms.now tos.now ways.now) (system_of sure) wide.now any.now ins.new past.new out.new }
 {
@@ -268,7 +268,7 @@ fn store_sure(
 )
     requires settled { Settled (graph_of size kinds.now checks.now privileged.now entries.now grants.now froms.now tos.now ways.now) (system_of false) sure.old grants.now may_ins.now may_past.now may.now }
     requires linked { Linked froms.now size.n head.now prev.now size.m }
-    requires n_in_bounds { (size.n ≤ length may_ins.now) × (size.n ≤ length may_past.now) × (size.n ≤ length head.now) × (size.m ≤ length prev.now) }
+    requires lengths { (size.n ≤ length may_ins.now) × (size.n ≤ length may_past.now) × (size.n ≤ length head.now) × (size.m ≤ length prev.now) }
     requires results_long { ResultsLong size.n size.m (length denied.old) (length granted.old) (length may.now) (length sure.old) }
     ensures { Content (graph_of size kinds.now checks.now privileged.now entries.now grants.now froms.now tos.now ways.now) (slices denied.new granted.new may.now sure.new) }
 {

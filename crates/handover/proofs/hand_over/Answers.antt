@@ -6,7 +6,7 @@ use borrow.Author.Tests.{not-true, not-false}
 use Rattle.handover.specs.Handover.{Lent, lent_of, Room, cramped, refused, accepted}
 use Rattle.handover.specs.Handover.Laws.{held_by, held_fine}
 use borrow.Author.Rules.{rules}
-use Rattle.handover.proofs.hand_over.Goals.{After-judge_held-judged, After-store_nodes}
+use Rattle.handover.proofs.hand_over.Goals.{After-judge_held-judged}
 use Rattle.handover.proofs.hand_over.Goals as goal
 
 -- what is known once the graph was judged
@@ -16,7 +16,7 @@ module _ (c : After-judge_held-judged) where
   lent = lent_of c.args.kinds.now c.args.checks.now c.args.privileged.now c.args.entries.now c.args.grants.now c.args.froms.now c.args.tos.now c.args.ways.now
 
   room : Room lent
-  room = let h = says_true c.has_room.ensures (not-false _ c.if-not-has_room.false) in record { nodes = h.0; edges = h.1 }
+  room = let h = says_true c.has_room.ensures (c.if-not-has_room.false) in record { nodes = h.0; edges = h.1 }
 
 pub returns-then-not-has_room : goal.returns-then-not-has_room
 returns-then-not-has_room c = cramped (λ r. says_false c.has_room.ensures (c.if-not-has_room.true) (r.nodes, r.edges))
@@ -35,30 +35,6 @@ store_edges-requires c =
     let f = held_fine c.in_default.is c.judge_held-judged.ensures in
     ((f.ranges.m_high, (room (goal.at.store_edges-requires c).After-judge_held-judged).edges), f.room.edges)
 
-pub shape_of-kinds : goal.shape_of-kinds
-shape_of-kinds c = c.store_nodes.kept.0
-
-pub shape_of-checks : goal.shape_of-checks
-shape_of-checks c = c.store_nodes.kept.1.0
-
-pub shape_of-privileged : goal.shape_of-privileged
-shape_of-privileged c = c.store_nodes.kept.1.1.0
-
-pub shape_of-entries : goal.shape_of-entries
-shape_of-entries c = c.store_nodes.kept.1.1.1.0
-
-pub shape_of-grants : goal.shape_of-grants
-shape_of-grants c = c.store_nodes.kept.1.1.1.1.0
-
-pub shape_of-froms : goal.shape_of-froms
-shape_of-froms c = c.store_edges.kept.0
-
-pub shape_of-tos : goal.shape_of-tos
-shape_of-tos c = c.store_edges.kept.1.0
-
-pub shape_of-ways : goal.shape_of-ways
-shape_of-ways c = c.store_edges.kept.1.1.0
-
 pub returns : goal.returns
 returns c =
-    accepted (room (goal.at.returns c).After-judge_held-judged) (held_by c.in_default.is c.judge_held-judged.ensures) (record { (goal.at.returns c).After-store_nodes = c.store_nodes.ensures; edges = c.store_edges.ensures })
+    accepted (room (goal.at.returns c).After-judge_held-judged) (held_by c.in_default.is c.judge_held-judged.ensures) (record { nodes = c.store_nodes.ensures; edges = c.store_edges.ensures })

@@ -6,18 +6,7 @@ use Rattle.machine.specs.Steps.{Rule}
 use Rattle.machine.specs.Steps.Parts.{somewhere}
 use Rattle.edges.specs.Leading.Search.{leads_so, leads_not}
 use borrow.Author.Rules.{rules}
-use Rattle.machine.proofs.find_place.Goals.{Else-lead, Else-lead-2, Else-lead-3}
 use Rattle.machine.proofs.find_place.Goals as goal
-
--- the state at the start, from where each of the three searches found nothing
-abbrev start-4 : tie.Else4 → tie.Start
-start-4 c = c.before.before.before.before.before.before.before.before.before.before.before.before
-
-abbrev start-6 : tie.Else6 → tie.Start
-start-6 c = c.before.before.before.before.before.before.before.before.before.before.before.before.before
-
-abbrev start-10 : tie.Else9 → tie.Start
-start-10 c = c.before.before.before.before.before.before.before.before.before.before.before.before.before.before.before.before
 
 pub returns-then-entries-next-eq-MARKED : goal.returns-then-entries-next-eq-MARKED
 returns-then-entries-next-eq-MARKED c = somewhere (Rule.enter c.if-height-eq0.true c.if-entries-next-eq-MARKED.true)
@@ -29,19 +18,19 @@ pub overflow_cast-top : goal.overflow_cast-top
 overflow_cast-top c = omega (arith, c.shared_slice_known-7-1.given (c.args.height - 1))
 
 pub bounds-kinds-top : goal.bounds-kinds-top
-bounds-kinds-top c = c.requires.1 (c.args.height - 1) (omega arith)
+bounds-kinds-top c = c.requires.frames (c.args.height - 1) (omega arith)
 
 pub returns-then-lead : goal.returns-then-lead
 returns-then-lead c = somewhere (Rule.call (omega arith) c.if-kind-eq-KIND_CALL.true (leads_so c.lead.ensures c.if-lead.true))
 
 pub returns-then-kind-eq-KIND_CALL : goal.returns-then-kind-eq-KIND_CALL
-returns-then-kind-eq-KIND_CALL c = no_place (λ h _. omega (arith, h)) (λ _ _. leads_not c.lead.ensures (start-4 (goal.at.returns-then-kind-eq-KIND_CALL c).Else-lead).requires.0.0 c.if-lead.false) (λ _ k _. omega (arith, k, c.if-kind-eq-KIND_CALL.true)) (λ _ k _. omega (arith, k, c.if-kind-eq-KIND_CALL.true))
+returns-then-kind-eq-KIND_CALL c = no_place (λ h _. omega (arith, h)) (λ _ _. leads_not c.lead.ensures c.requires.sizes.0 c.if-lead.false) (λ _ k _. omega (arith, k, c.if-kind-eq-KIND_CALL.true)) (λ _ k _. omega (arith, k, c.if-kind-eq-KIND_CALL.true))
 
 pub returns-then-lead-2 : goal.returns-then-lead-2
 returns-then-lead-2 c = somewhere (Rule.pass (omega arith) c.if-kind-eq-KIND_CHECK.true (leads_so c.lead-then-kind-eq-KIND_CHECK.ensures c.if-lead-2.true))
 
 pub returns-then-kind-eq-KIND_CHECK : goal.returns-then-kind-eq-KIND_CHECK
-returns-then-kind-eq-KIND_CHECK c = no_place (λ h _. omega (arith, h)) (λ _ k _. omega (arith, k, c.if-kind-eq-KIND_CHECK.true)) (λ _ _. leads_not c.lead-then-kind-eq-KIND_CHECK.ensures (start-6 (goal.at.returns-then-kind-eq-KIND_CHECK c).Else-lead-2).requires.0.0 c.if-lead-2.false) (λ _ k _. omega (arith, k, c.if-kind-eq-KIND_CHECK.true))
+returns-then-kind-eq-KIND_CHECK c = no_place (λ h _. omega (arith, h)) (λ _ k _. omega (arith, k, c.if-kind-eq-KIND_CHECK.true)) (λ _ _. leads_not c.lead-then-kind-eq-KIND_CHECK.ensures c.requires.sizes.0 c.if-lead-2.false) (λ _ k _. omega (arith, k, c.if-kind-eq-KIND_CHECK.true))
 
 pub returns-then-kind-ne-KIND_RETURN : goal.returns-then-kind-ne-KIND_RETURN
 returns-then-kind-ne-KIND_RETURN c = no_place (λ h _. omega (arith, h)) (λ _ k _. c.if-kind-eq-KIND_CALL.false k) (λ _ k _. c.if-kind-eq-KIND_CHECK.false k) (λ _ k _. c.if-kind-ne-KIND_RETURN.true k)
@@ -56,4 +45,4 @@ pub returns-then-lead-3 : goal.returns-then-lead-3
 returns-then-lead-3 c = somewhere (Rule.back (omega arith) c.if-kind-ne-KIND_RETURN.false (leads_so c.lead-2.ensures c.if-lead-3.true))
 
 pub returns : goal.returns
-returns c = no_place (λ h _. omega (arith, h)) (λ _ k _. c.if-kind-eq-KIND_CALL.false k) (λ _ k _. c.if-kind-eq-KIND_CHECK.false k) (λ _ _. leads_not c.lead-2.ensures (start-10 (goal.at.returns c).Else-lead-3).requires.0.0 c.if-lead-3.false)
+returns c = no_place (λ h _. omega (arith, h)) (λ _ k _. c.if-kind-eq-KIND_CALL.false k) (λ _ k _. c.if-kind-eq-KIND_CHECK.false k) (λ _ _. leads_not c.lead-2.ensures c.requires.sizes.0 c.if-lead-3.false)

@@ -17,10 +17,10 @@ module _ (c : In-loop-h) where
   top = c.loop-h.h - 1
 
   own : top < length c.args.stack.now
-  own = omega (arith, c.loop-h.invariant.left, c.requires.0.0)
+  own = omega (arith, c.loop-h.invariant.left, c.requires.sizes.0)
 
   node : get_or c.args.stack.now top 0 < length c.args.grants.now
-  node = c.requires.1 top (omega (arith, c.loop-h.invariant.left))
+  node = c.requires.frames top (omega (arith, c.loop-h.invariant.left))
 
 pub loop-h-init : goal.loop-h-init
 loop-h-init c = looking_start _ _ _
@@ -41,7 +41,7 @@ pub overflow_sub-result : goal.overflow_sub-result
 overflow_sub-result c = omega (arith, c.loop-h.invariant.left)
 
 pub overflow_add-result : goal.overflow_add-result
-overflow_add-result c = omega (arith, c.requires.0.1)
+overflow_add-result c = omega (arith, c.requires.sizes.1)
 
 pub returns-then-not-has : goal.returns-then-not-has
 returns-then-not-has c =
@@ -49,13 +49,13 @@ returns-then-not-has c =
     (full_lacks _ _ _ _ (sym c.has.ensures ∙ c.if-not-has.true))
 
 pub bounds-privileged-i : goal.bounds-privileged-i
-bounds-privileged-i c = omega (arith, node (goal.at.bounds-privileged-i c).In-loop-h, c.requires.0.2)
+bounds-privileged-i c = omega (arith, node (goal.at.bounds-privileged-i c).In-loop-h, c.requires.sizes.2)
 
 pub overflow_sub-result-then-is_privileged : goal.overflow_sub-result-then-is_privileged
 overflow_sub-result-then-is_privileged c = omega (arith, c.loop-h.invariant.left)
 
 pub overflow_add-result-then-is_privileged : goal.overflow_add-result-then-is_privileged
-overflow_add-result-then-is_privileged c = omega (arith, c.requires.0.1)
+overflow_add-result-then-is_privileged c = omega (arith, c.requires.sizes.1)
 
 pub returns-then-is_privileged : goal.returns-then-is_privileged
 returns-then-is_privileged c =

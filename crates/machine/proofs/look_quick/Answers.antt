@@ -16,10 +16,10 @@ module _ (c : In-loop-h) where
   top = c.loop-h.h - 1
 
   own : top < length c.args.stack.now
-  own = omega (arith, c.loop-h.invariant.left, c.requires.0.0)
+  own = omega (arith, c.loop-h.invariant.left, c.requires.sizes.0)
 
   node : get_or c.args.stack.now top 0 < length c.args.denied.now
-  node = c.requires.1 top (omega (arith, c.loop-h.invariant.left))
+  node = c.requires.frames top (omega (arith, c.loop-h.invariant.left))
 
 pub loop-h-init : goal.loop-h-init
 loop-h-init c = looking_start _ _ _
@@ -40,7 +40,7 @@ pub overflow_sub-result : goal.overflow_sub-result
 overflow_sub-result c = omega (arith, c.loop-h.invariant.left)
 
 pub overflow_add-result : goal.overflow_add-result
-overflow_add-result c = omega (arith, c.requires.0.1)
+overflow_add-result c = omega (arith, c.requires.sizes.1)
 
 pub returns-then-has : goal.returns-then-has
 returns-then-has c =
@@ -48,16 +48,16 @@ returns-then-has c =
     (quick_denies _ _ _ _ _ (sym c.has.ensures ∙ c.if-has.true))
 
 pub offset_bounds-granted-i : goal.offset_bounds-granted-i
-offset_bounds-granted-i c = omega (arith, node (goal.at.offset_bounds-granted-i c).In-loop-h, c.requires.0.2)
+offset_bounds-granted-i c = omega (arith, node (goal.at.offset_bounds-granted-i c).In-loop-h, c.requires.sizes.2)
 
 pub bounds-granted-i : goal.bounds-granted-i
-bounds-granted-i c = omega (arith, node (goal.at.bounds-granted-i c).In-loop-h, c.requires.0.2)
+bounds-granted-i c = omega (arith, node (goal.at.bounds-granted-i c).In-loop-h, c.requires.sizes.2)
 
 pub overflow_sub-result-then-has-2 : goal.overflow_sub-result-then-has-2
 overflow_sub-result-then-has-2 c = omega (arith, c.loop-h.invariant.left)
 
 pub overflow_add-result-then-has-2 : goal.overflow_add-result-then-has-2
-overflow_add-result-then-has-2 c = omega (arith, c.requires.0.1)
+overflow_add-result-then-has-2 c = omega (arith, c.requires.sizes.1)
 
 pub returns-then-has-2 : goal.returns-then-has-2
 returns-then-has-2 c =

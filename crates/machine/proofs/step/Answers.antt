@@ -11,7 +11,7 @@ use Rattle.frames.specs.Frames.{StackFits}
 use Rattle.machine.specs.Inspect.{Asks, graph, asked, stack}
 use Rattle.machine.specs.Steps.{Steps, StepRefuses}
 use borrow.Author.Rules.{rules}
-use Rattle.machine.proofs.step.Goals.{After-stack_fits, Else-not-stack_fits, In_default, In_default-1}
+use Rattle.machine.proofs.step.Goals.{After-stack_fits, Else-not-stack_fits, In_default}
 use Rattle.machine.proofs.step.Goals as goal
 
 module _ (c : In_default) where
@@ -30,7 +30,7 @@ module _ (c : Else-not-stack_fits) where
   slice = c.args.stack.now
 
   fits : StackFits (g (PLACE After-enum-told of c)).size.n slice c.args.height
-  fits = says_true c.stack_fits.ensures (not-false _ c.if-not-stack_fits.left)
+  fits = says_true c.stack_fits.ensures (c.if-not-stack_fits.false)
 
   asks : Asks (g (PLACE After-enum-told of c)) (c.args.next < (g (PLACE After-enum-told of c)).size.n) slice c.args.height
   asks = record { acceptable = accepted (PLACE After-enum-told of c); below = omega arith; fits = fits }
@@ -44,7 +44,7 @@ returns-then-n-next c = Steps.refused (StepRefuses.asks (asked (accepted (goal.a
 pub returns-then-not-stack_fits : goal.returns-then-not-stack_fits
 returns-then-not-stack_fits c =
     Steps.refused
-    (StepRefuses.asks (stack (accepted (goal.at.returns-then-not-stack_fits c).In_default-1) (omega arith) (says_false c.stack_fits.ensures (c.if-not-stack_fits.taken))))
+    (StepRefuses.asks (stack (accepted (goal.at.returns-then-not-stack_fits c).In_default) (omega arith) (says_false c.stack_fits.ensures (c.if-not-stack_fits.true))))
 
 pub find_place-requires : goal.find_place-requires
 find_place-requires c =

@@ -15,7 +15,7 @@ module _ (c : Else-height-eq0) where
   top = c.args.height - 1
 
   node : get_or c.args.stack.now top 0 < length c.args.grants.now
-  node = c.requires.1 top (omega arith)
+  node = c.requires.frames top (omega arith)
 
 pub returns-then-height-eq0 : goal.returns-then-height-eq0
 returns-then-height-eq0 c = fails (λ d. omega (arith, d.framed))
@@ -24,16 +24,16 @@ pub overflow_cast-top : goal.overflow_cast-top
 overflow_cast-top c = omega (arith, c.shared_slice_known-6-1.given (top (goal.at.overflow_cast-top c).Else-height-eq0))
 
 pub bounds-kinds-top : goal.bounds-kinds-top
-bounds-kinds-top c = omega (arith, node (goal.at.bounds-kinds-top c).Else-height-eq0, c.requires.0)
+bounds-kinds-top c = omega (arith, node (goal.at.bounds-kinds-top c).Else-height-eq0, c.requires.sizes)
 
 pub returns-then-kinds-top-ne-KIND_CHECK : goal.returns-then-kinds-top-ne-KIND_CHECK
 returns-then-kinds-top-ne-KIND_CHECK c = fails (λ d. c.if-kinds-top-ne-KIND_CHECK.true d.at_check)
 
 pub offset_bounds-checks-top : goal.offset_bounds-checks-top
-offset_bounds-checks-top c = omega (arith, node (goal.at.offset_bounds-checks-top c).Else-height-eq0, c.requires.0)
+offset_bounds-checks-top c = omega (arith, node (goal.at.offset_bounds-checks-top c).Else-height-eq0, c.requires.sizes)
 
 pub bounds-checks-top : goal.bounds-checks-top
-bounds-checks-top c = omega (arith, node (goal.at.bounds-checks-top c).Else-height-eq0, c.requires.0)
+bounds-checks-top c = omega (arith, node (goal.at.bounds-checks-top c).Else-height-eq0, c.requires.sizes)
 
 pub overflow_cast-checks : goal.overflow_cast-checks
 overflow_cast-checks c = omega (arith, c.shared_slice_known-8-1.given (get_or c.args.stack.now (top (goal.at.overflow_cast-checks c).Else-height-eq0) 0))

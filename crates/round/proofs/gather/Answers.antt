@@ -4,12 +4,7 @@ use Rattle.truth.specs.Truth.Tests.{says_true, says_false}
 use Rattle.round.specs.Round.{unsent}
 use Rattle.round.specs.Round.Laws.{unbegun_by, gathered_by}
 use borrow.Author.Rules.{rules}
-use Rattle.round.proofs.gather.Goals.{Else-not-begin}
 use Rattle.round.proofs.gather.Goals as goal
-
--- past the first test, from a place past the second
-abbrev tested : tie.Else2 → tie.Else1
-tested c = c.before.before.before.before.before.before.before.before
 
 pub returns-then-not-can_gather : goal.returns-then-not-can_gather
 returns-then-not-can_gather c = unsent (says_false c.can_gather.ensures (c.if-not-can_gather.true))
@@ -18,9 +13,8 @@ pub returns-then-not-begin : goal.returns-then-not-begin
 returns-then-not-begin c = unbegun_by _ _ _ _ _ _ _ _ _ _ _ (c.if-not-begin.true) c.begin.ensures
 
 pub gather_all-requires : goal.gather_all-requires
-gather_all-requires c = let t = tested (goal.at.gather_all-requires c).Else-not-begin in says_true t.before.can-gather.ensures (not-false _ t.if1.left)
+gather_all-requires c = says_true c.can_gather.ensures (c.if-not-can_gather.false)
 
 pub returns : goal.returns
 returns c =
-    let t = tested (goal.at.returns c).Else-not-begin in
-    gathered_by _ _ _ _ _ _ _ _ _ _ _ _ _ (says_true t.before.can-gather.ensures (not-false _ t.if1.left)) (c.if-not-begin.false) c.begin.ensures c.gather_all.ensures
+    gathered_by _ _ _ _ _ _ _ _ _ _ _ _ _ (says_true c.can_gather.ensures (c.if-not-can_gather.false)) (c.if-not-begin.false) c.begin.ensures c.gather_all.ensures

@@ -56,5 +56,5 @@ shape_of-past c = c.loop-e.invariant.4
 pub returns : goal.returns
 returns c =
     let here = c.loop-e in
-    let e : at.e ≡ length c.args.tos.now = omega arith in
+    let e : here.e ≡ length c.args.tos.now = omega arith in
     (rw (← e) here.invariant.1, rw (← e) here.invariant.2)

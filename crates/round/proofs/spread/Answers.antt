@@ -17,8 +17,8 @@ module _ (c : Else-not-ends_low) where
 
   can : CanSpread c.args.kinds.now c.args.checks.now c.args.privileged.now c.args.grants.now c.args.froms.now c.args.tos.now c.args.ways.now c.args.any.now c.args.ins.now c.args.past.now c.args.out.now
   can = record {
-    room = says_true c.have_room.ensures (not-false _ c.if-not-have_room.false);
-    low = says_true c.ends_low.ensures (not-false _ c.if-not-ends_low.false);
+    room = says_true c.have_room.ensures (c.if-not-have_room.false);
+    low = says_true c.ends_low.ensures (c.if-not-ends_low.false);
   }
 
 pub spread_all-requires : goal.spread_all-requires

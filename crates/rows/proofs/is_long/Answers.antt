@@ -1,7 +1,6 @@
 use native.Mathlib.Omega.{arith}
 use Rattle.truth.specs.Truth.{fails}
 use Rattle.truth.specs.Truth.Tests.{says_same, eq?}
-use Rattle.rows.proofs.is_long.Goals.{Else-n-gt-MOST_NODES}
 use Rattle.rows.proofs.is_long.Goals as goal
 
 pub returns-then-n-eq0 : goal.returns-then-n-eq0
@@ -21,4 +20,4 @@ returns-then-denied-n c = fails (λ l. c.if-denied-n.true l.denied_long)
 
 pub returns : goal.returns
 returns c =
-    says_same (eq? _ _) (λ e. record { many = omega (arith, c.if-n-eq0.false); (goal.at.returns c).Else-n-gt-MOST_NODES = c.if-n-gt-MOST_NODES.false; kinds_long = c.if-kinds-n.false; checks_long = c.if-checks-n.false; denied_long = c.if-denied-n.false; granted_long = e }) (λ l. l.granted_long)
+    says_same (eq? _ _) (λ e. record { many = omega (arith, c.if-n-eq0.false); few = c.if-n-gt-MOST_NODES.false; kinds_long = c.if-kinds-n.false; checks_long = c.if-checks-n.false; denied_long = c.if-denied-n.false; granted_long = e }) (λ l. l.granted_long)

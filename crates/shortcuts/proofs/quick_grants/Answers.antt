@@ -5,7 +5,7 @@ use native.Mathlib.Omega.{arith}
 use lib.ListN.{length}
 use Rattle.truth.specs.Truth.Tests.{says_true}
 use Rattle.shortcuts.specs.Shortcuts.Short.{unknown, Granting, granting_start, granting_next, granting_end}
-use Rattle.shortcuts.proofs.quick_grants.Goals.{Else-v-ge-SET_BITS, In-loop-x}
+use Rattle.shortcuts.proofs.quick_grants.Goals.{In-loop-x}
 use Rattle.shortcuts.proofs.quick_grants.Goals as goal
 
 -- Room is looked for at each turn, and every place that the turn reads lies within it.
@@ -13,10 +13,6 @@ module _ (c : In-loop-x) where
 
   room : c.loop-x.i + 16 ≤ length c.args.s.now
   room = says_true c.has_room.ensures c.loop-x-test.true
-
--- a member that may stand there was found
-abbrev to_room : tie.Else4 invariant-loop decreases-loop → tie.Then1 invariant-loop decreases-loop
-to_room c = c.before.before.before.before
 
 pub loop-x-init : goal.loop-x-init
 loop-x-init c = granting_start
@@ -34,29 +30,27 @@ pub returns-then-v-ge-SET_BITS : goal.returns-then-v-ge-SET_BITS
 returns-then-v-ge-SET_BITS c = unknown
 
 pub overflow_add-e : goal.overflow_add-e
-overflow_add-e c = omega (arith, room (to_room (goal.at.overflow_add-e c).Else-v-ge-SET_BITS))
+overflow_add-e c = omega (arith, room (goal.at.overflow_add-e c).In-loop-x)
 
 pub bounds-s-e : goal.bounds-s-e
-bounds-s-e c = omega (arith, room (to_room (goal.at.bounds-s-e c).Else-v-ge-SET_BITS))
+bounds-s-e c = omega (arith, room (goal.at.bounds-s-e c).In-loop-x)
 
 pub end_grants-requires : goal.end_grants-requires
-end_grants-requires c = omega (arith, room (to_room (goal.at.end_grants-requires c).Else-v-ge-SET_BITS))
+end_grants-requires c = omega (arith, room (goal.at.end_grants-requires c).In-loop-x)
 
 pub returns-then-s-e-ne32 : goal.returns-then-s-e-ne32
 returns-then-s-e-ne32 c =
-    let turn = (to_room (goal.at.returns-then-s-e-ne32 c).Else-v-ge-SET_BITS).before.before in
-    granting_end turn.loop.inv c.short_digits-x.ensures c.if-x-eq0.false c.if-v-low.false (omega (arith, c.if-v-ge-SET_BITS.false)) c.end_grants.ensures
+    granting_end c.loop-x.invariant c.short_digits-x.ensures c.if-x-eq0.false c.if-v-low.false (omega (arith, c.if-v-ge-SET_BITS.false)) c.end_grants.ensures
 
 pub overflow_add-i : goal.overflow_add-i
-overflow_add-i c = omega (arith, room (to_room (goal.at.overflow_add-i c).Else-v-ge-SET_BITS))
+overflow_add-i c = omega (arith, room (goal.at.overflow_add-i c).In-loop-x)
 
 pub loop-x-smaller : goal.loop-x-smaller
-loop-x-smaller c = omega (arith, room (to_room (goal.at.loop-x-smaller c).Else-v-ge-SET_BITS))
+loop-x-smaller c = omega (arith, room (goal.at.loop-x-smaller c).In-loop-x)
 
 pub loop-x-preserved : goal.loop-x-preserved
 loop-x-preserved c =
-    let turn = (to_room (goal.at.loop-x-preserved c).Else-v-ge-SET_BITS).before.before in
-    granting_next turn.loop.inv c.short_digits-x.ensures c.if-x-eq0.false c.if-v-low.false (omega (arith, c.if-v-ge-SET_BITS.false)) c.if-s-e-ne32.false
+    granting_next c.loop-x.invariant c.short_digits-x.ensures c.if-x-eq0.false c.if-v-low.false (omega (arith, c.if-v-ge-SET_BITS.false)) c.if-s-e-ne32.false
 
 pub returns : goal.returns
 returns c = unknown

@@ -11,29 +11,14 @@ use Rattle.shortcuts.specs.Shortcuts.Short.{unknown, quick_known, short_says, le
 use Rattle.records.specs.Records.{lead_row_of}
 use Rattle.records.specs.Records.Rows.{lead_all}
 use borrow.Author.Rules.{rules}
-use Rattle.shortcuts.proofs.quick_lead.Goals.{Else-check-eq0, Else-kind-eq0, Else-marks-eq0, Else-not-has_room, Else-own-i, Else-short_letter-ne78}
+use Rattle.shortcuts.proofs.quick_lead.Goals.{Else-not-has_room}
 use Rattle.shortcuts.proofs.quick_lead.Goals as goal
-
-abbrev to-tag : tie.Else2 → tie.Else1
-to-tag c = c.before.before
-
-abbrev to-own : tie.Else4 → tie.Else1
-to-own c = to-tag c.before.before.before
-
-abbrev to-kind : tie.Else5 → tie.Else1
-to-kind c = to-own c.before.before
-
-abbrev to-check : tie.Else6 → tie.Else1
-to-check c = to-kind c.before.before
-
-abbrev to-marks : tie.Else7 → tie.Else1
-to-marks c = to-check c.before.before
 
 -- Room for a row of short fields is looked for first, and every place that is read later lies within it.
 module _ (c : Else-not-has_room) where
 
   room : c.args.at + 40 ≤ length c.args.s.now
-  room = says_true c.has_room.ensures (not-false _ c.if-not-has_room.false)
+  room = says_true c.has_room.ensures (c.if-not-has_room.false)
 
 pub returns-then-not-has_room : goal.returns-then-not-has_room
 returns-then-not-has_room c = unknown
@@ -45,10 +30,10 @@ pub returns-then-short_letter-ne78 : goal.returns-then-short_letter-ne78
 returns-then-short_letter-ne78 c = unknown
 
 pub overflow_add-at : goal.overflow_add-at
-overflow_add-at c = omega (arith, room (to-tag (goal.at.overflow_add-at c).Else-short_letter-ne78))
+overflow_add-at c = omega (arith, room (goal.at.overflow_add-at c).Else-not-has_room)
 
 pub short_number-own-requires : goal.short_number-own-requires
-short_number-own-requires c = omega (arith, room (to-tag (goal.at.short_number-own-requires c).Else-short_letter-ne78))
+short_number-own-requires c = omega (arith, room (goal.at.short_number-own-requires c).Else-not-has_room)
 
 pub returns-then-own-eq0 : goal.returns-then-own-eq0
 returns-then-own-eq0 c = unknown
@@ -57,37 +42,37 @@ pub returns-then-own-i : goal.returns-then-own-i
 returns-then-own-i c = unknown
 
 pub overflow_add-a : goal.overflow_add-a
-overflow_add-a c = omega (arith, room (to-own (goal.at.overflow_add-a c).Else-own-i))
+overflow_add-a c = omega (arith, room (goal.at.overflow_add-a c).Else-not-has_room)
 
 pub overflow_add-a-2 : goal.overflow_add-a-2
-overflow_add-a-2 c = omega (arith, room (to-own (goal.at.overflow_add-a-2 c).Else-own-i))
+overflow_add-a-2 c = omega (arith, room (goal.at.overflow_add-a-2 c).Else-not-has_room)
 
 pub short_kind-kind-requires : goal.short_kind-kind-requires
-short_kind-kind-requires c = omega (arith, room (to-own (goal.at.short_kind-kind-requires c).Else-own-i))
+short_kind-kind-requires c = omega (arith, room (goal.at.short_kind-kind-requires c).Else-not-has_room)
 
 pub returns-then-kind-eq0 : goal.returns-then-kind-eq0
 returns-then-kind-eq0 c = unknown
 
 pub overflow_add-b : goal.overflow_add-b
-overflow_add-b c = omega (arith, room (to-kind (goal.at.overflow_add-b c).Else-kind-eq0))
+overflow_add-b c = omega (arith, room (goal.at.overflow_add-b c).Else-not-has_room)
 
 pub short_check-check-requires : goal.short_check-check-requires
-short_check-check-requires c = omega (arith, room (to-kind (goal.at.short_check-check-requires c).Else-kind-eq0))
+short_check-check-requires c = omega (arith, room (goal.at.short_check-check-requires c).Else-not-has_room)
 
 pub returns-then-check-eq0 : goal.returns-then-check-eq0
 returns-then-check-eq0 c = unknown
 
 pub overflow_add-c : goal.overflow_add-c
-overflow_add-c c = omega (arith, room (to-check (goal.at.overflow_add-c c).Else-check-eq0))
+overflow_add-c c = omega (arith, room (goal.at.overflow_add-c c).Else-not-has_room)
 
 pub short_marks-marks-requires : goal.short_marks-marks-requires
-short_marks-marks-requires c = omega (arith, room (to-check (goal.at.short_marks-marks-requires c).Else-check-eq0))
+short_marks-marks-requires c = omega (arith, room (goal.at.short_marks-marks-requires c).Else-not-has_room)
 
 pub returns-then-marks-eq0 : goal.returns-then-marks-eq0
 returns-then-marks-eq0 c = unknown
 
 pub overflow_add-result : goal.overflow_add-result
-overflow_add-result c = omega (arith, room (to-marks (goal.at.overflow_add-result c).Else-marks-eq0))
+overflow_add-result c = omega (arith, room (goal.at.overflow_add-result c).Else-not-has_room)
 
 pub returns : goal.returns
 returns c =

@@ -9,25 +9,14 @@ use Rattle.worklist.specs.Worklist.Stack.{fills_all}
 use Rattle.flow.specs.Walk.Taken.{walk_begins, rested}
 use Rattle.sums.specs.Sums.Laws.{begins_begun}
 use Rattle.round.specs.Round.Laws.{spreads_all}
-use Rattle.solver.proofs.run.Goals.{After-slice_known-2-1, After-stack-3-1}
+use Rattle.solver.proofs.run.Goals.{After-slice_known-2-1}
 use Rattle.solver.proofs.run.Goals as goal
-
--- the places of the code after each call, from the places where the next one asks
-abbrev start : tie.After-begin → tie.Start
-start c = c.before.before.before.before.before.before.before.before.before.before.before.before.before.before.before.before
-
-abbrev began : tie.After-stack3 → tie.After-begin
-began c = c.before.before.before.before.before.before.before
-
-abbrev filled : tie.After-stack3 → tie.After-fill
-filled c = c.before.before.before.before.before
 
 pub walk-requires : goal.walk-requires
 walk-requires c =
-    let b = (began (goal.at.walk-requires c).After-stack-3-1).begin in
-    let f = (filled (goal.at.walk-requires c).After-stack-3-1).fill in
-    let lent = (began (goal.at.walk-requires c).After-stack-3-1).before in
-    let p = (start (began (goal.at.walk-requires c).After-stack-3-1)).pre in
+    let b = c.begin in
+    let f = c.fill in
+    let p = c.requires.setting in
     let shape = p.0.acc.shape in
     let high = shape.ranges.n_high in
     let marks = length-replicate {A = ℕ} 1024 1 in
@@ -35,8 +24,8 @@ walk-requires c =
       p.0,
       (
         walk_begins _ _ _ _ _ _ _ _ p.0.acc (begins_begun _ _ _ _ _ _ _ _ (record {
-          ins_long = omega (arith, lent.before.begin-arg.given.0.1, high);
-          past_long = omega (arith, lent.begin-arg2.given.0.1, high);
+          ins_long = omega (arith, c.begin-arg-1.given.0.1, high);
+          past_long = omega (arith, c.begin-arg-2-1.given.0.1, high);
           checks_long = omega (arith, shape.nodes.checks);
           entries_long = omega (arith, shape.nodes.entries);
           grants_long = omega (arith, shape.nodes.grants);
@@ -58,7 +47,7 @@ module _ (c : After-slice_known-2-1) where
 
 pub returns : goal.returns
 returns c =
-    let p = (start (began (goal.at.returns c).After-stack-3-1)).pre in
+    let p = c.requires.setting in
     let walking = c.walk.ensures in
     let high = p.0.acc.shape.ranges.n_high in (
       (ins_long (goal.at.returns c).After-slice_known-2-1, past_long (goal.at.returns c).After-slice_known-2-1),

@@ -5,7 +5,7 @@ use native.Mathlib.Omega.{arith}
 use borrow.Author.Rules.{rules}
 use Rattle.flow.specs.Walk.{system_of, state, send_from}
 use Rattle.flow.specs.Walk.Sent.{sent_all, sent_one, bringable}
-use Rattle.solver.proofs.send.Goals.{After-shared_slice_known-in-loop-cur-1, After-shared_slice_known-in-loop-cur-1-unread, In-loop-cur}
+use Rattle.solver.proofs.send.Goals.{In-loop-cur}
 use Rattle.solver.proofs.send.Goals as goal
 
 -- what a turn knows: its edge is one, leads to a node, and has the next one below it
@@ -18,30 +18,20 @@ module _ (c : In-loop-cur) where
   own = omega arith
 
   ends : get_or c.args.tos.now edge 0 < length c.args.kinds.now
-  ends = c.requires.0.ends edge own
+  ends = c.requires.sendable.ends edge own
 
   low : get_or c.args.prev.now edge 0 < c.loop-cur.cur
-  low = omega (arith, c.requires.0.down edge own)
-
--- the end of a turn, when the next edge is read, and what came before it
-abbrev arrived : tie.After-shared-slice-known8 invariant-loop decreases-loop → tie.After-arrive invariant-loop decreases-loop
-arrived c = c.before.before.before.before.before.before.before.before.before
-
-abbrev brought : tie.After-arrive invariant-loop decreases-loop → tie.After-bring invariant-loop decreases-loop
-brought c = c.before.before.before.before.before
-
-abbrev turn : tie.After-shared-slice-known8 invariant-loop decreases-loop → tie.In-loop invariant-loop decreases-loop
-turn c = (brought (arrived c)).before
+  low = omega (arith, c.requires.sendable.down edge own)
 
 pub loop-cur-init : goal.loop-cur-init
-loop-cur-init c = (refl, c.requires.1, refl, refl, refl, refl)
+loop-cur-init c = (refl, c.requires.first_in_bounds, refl, refl, refl, refl)
 
 pub bring-x-requires : goal.bring-x-requires
-bring-x-requires c = bringable _ _ _ _ _ _ _ _ _ _ c.requires.0 (own (goal.at.bring-x-requires c).In-loop-cur)
+bring-x-requires c = bringable _ _ _ _ _ _ _ _ _ _ c.requires.sendable (own (goal.at.bring-x-requires c).In-loop-cur)
 
 pub arrive-t-requires : goal.arrive-t-requires
 arrive-t-requires c =
-    let s = c.requires.0 in
+    let s = c.requires.sendable in
     let to = c.bring-x.ensures.to in
     (omega (arith, to, ends (goal.at.arrive-t-requires c).In-loop-cur, s.ins_long), omega (arith, to, ends (goal.at.arrive-t-requires c).In-loop-cur, s.past_long))
 
@@ -49,25 +39,24 @@ pub offset_bounds-prev-e : goal.offset_bounds-prev-e
 offset_bounds-prev-e c = omega (arith, own (goal.at.offset_bounds-prev-e c).In-loop-cur, c.well_formed)
 
 pub bounds-prev-e : goal.bounds-prev-e
-bounds-prev-e c = omega (arith, own (turn (goal.at.bounds-prev-e c).After-shared_slice_known-in-loop-cur-1-unread), (start (turn (goal.at.bounds-prev-e c).After-shared_slice_known-in-loop-cur-1-unread)).pre.0.prev_long)
+bounds-prev-e c = omega (arith, own (goal.at.bounds-prev-e c).In-loop-cur, c.requires.sendable.prev_long)
 
 pub overflow_cast-cur-in-loop-cur : goal.overflow_cast-cur-in-loop-cur
-overflow_cast-cur-in-loop-cur c = omega (arith, c.shared_slice_known-in-loop-cur-1.given (edge (turn (goal.at.overflow_cast-cur-in-loop-cur c).After-shared_slice_known-in-loop-cur-1)))
+overflow_cast-cur-in-loop-cur c = omega (arith, c.shared_slice_known-in-loop-cur-1.given (edge (goal.at.overflow_cast-cur-in-loop-cur c).In-loop-cur))
 
 pub loop-cur-smaller : goal.loop-cur-smaller
-loop-cur-smaller c = omega (arith, low (turn (goal.at.loop-cur-smaller c).After-shared_slice_known-in-loop-cur-1))
+loop-cur-smaller c = omega (arith, low (goal.at.loop-cur-smaller c).In-loop-cur)
 
 pub loop-cur-preserved : goal.loop-cur-preserved
 loop-cur-preserved c =
-    let i = turn (goal.at.loop-cur-preserved c).After-shared_slice_known-in-loop-cur-1 in
-    let here = i.before.loop in
-    let a = (arrived (goal.at.loop-cur-preserved c).After-shared_slice_known-in-loop-cur-1).arrive in (
-      sent_one _ _ _ _ _ _ _ _ _ _ (start i).pre.0.down _ _ _ (edge i) _ _ _ (omega arith) (own i) (brought (arrived (goal.at.loop-cur-preserved c).After-shared_slice_known-in-loop-cur-1)).bring.ensures a.ensures ∙ at.inv.0,
-      omega (arith, own i, low i),
-      a.kept.0 ∙ at.inv.2,
-      a.kept.1.0 ∙ at.inv.3,
-      a.kept.1.1.0 ∙ at.inv.4,
-      a.kept.1.1.1.0 ∙ at.inv.5,
+    let here = c.loop-cur in
+    let a = c.arrive-t in (
+      sent_one _ _ _ _ _ _ _ _ _ _ c.requires.sendable.down _ _ _ (edge (goal.at.loop-cur-preserved c).In-loop-cur) _ _ _ (omega arith) (own (goal.at.loop-cur-preserved c).In-loop-cur) c.bring-x.ensures a.ensures ∙ here.inv.0,
+      omega (arith, own (goal.at.loop-cur-preserved c).In-loop-cur, low (goal.at.loop-cur-preserved c).In-loop-cur),
+      a.kept.0 ∙ here.inv.2,
+      a.kept.1.0 ∙ here.inv.3,
+      a.kept.1.1.0 ∙ here.inv.4,
+      a.kept.1.1.1.0 ∙ here.inv.5,
     )
 
 pub shape_of-ins : goal.shape_of-ins

@@ -8,7 +8,7 @@ use Rattle.flow.specs.Walk.{system_of, state, State, to_do, Walking}
 use Rattle.worklist.specs.Worklist.{Linked}
 use Rattle.flow.specs.Walk.Taken.{top_low, node_reads, first_low, sendable}
 use Rattle.flow.specs.Walk.Taken as taken
-use Rattle.solver.proofs.walk.Goals.{After-leave-x, After-shared_slice_known-12-1, After-shared_slice_known-in-loop-top-1, After-shared_slice_known-in-loop-top-1-unread, After-slice_known-in-loop-top-5-1, In-loop-top}
+use Rattle.solver.proofs.walk.Goals.{After-shared_slice_known-12-1, After-slice_known-in-loop-top-5-1, In-loop-top}
 use Rattle.solver.proofs.walk.Goals as goal
 
 -- what a turn knows
@@ -27,36 +27,26 @@ module _ (c : In-loop-top) where
   walking = c.loop-top.invariant.0
 
   abbrev linked : Linked g.edges.froms g.size.n c.args.head.now c.args.prev.now g.size.m
-  linked = c.requires.1.1.0
+  linked = c.requires.linked
 
   above : c.loop-top.top ≡ t + 1
   above = omega (arith, c.loop-top-test.true)
 
   low : get_or c.loop-top.stack t 0 < c.args.n
-  low = top_low g _ _ _ _ _ c.requires.0 linked x t above walking
+  low = top_low g _ _ _ _ _ c.requires.setting linked x t above walking
 
   small : get_or c.loop-top.stack t 0 < 1024
-  small = omega (arith, low, c.requires.0.acc.shape.ranges.n_high)
+  small = omega (arith, low, c.requires.setting.acc.shape.ranges.n_high)
 
   reads : (get_or c.loop-top.stack t 0 < length c.args.kinds.now) × (get_or c.loop-top.stack t 0 < length c.args.checks.now) × (get_or c.loop-top.stack t 0 < length c.args.privileged.now) × (get_or c.loop-top.stack t 0 < length c.args.grants.now)
-  reads = node_reads g _ _ _ _ _ c.requires.0 linked x t above walking
-
--- places of a turn: what leaves the node is known, and all of it was sent
-abbrev left : tie.After-shared-slice-known13 invariant-loop decreases-loop → tie.After-leave invariant-loop decreases-loop
-left c = c.before.before.before.before.before
-
-abbrev sent : tie.After-slice-known9 invariant-loop decreases-loop → tie.After-send invariant-loop decreases-loop
-sent c = c.before.before.before.before.before.before.before.before
-
-abbrev turn : tie.After-leave invariant-loop decreases-loop → tie.In-loop invariant-loop decreases-loop
-turn c = c.before.before.before.before
+  reads = node_reads g _ _ _ _ _ c.requires.setting linked x t above walking
 
 -- the turn keeps the invariant, and less is left to do
 module _ (c : After-slice_known-in-loop-top-5-1) where
 
 
 pub loop-top-init : goal.loop-top-init
-loop-top-init c = (c.requires.1.0, refl, refl, refl, refl)
+loop-top-init c = (c.requires.walking, refl, refl, refl, refl)
 
 pub bounds-stack-t : goal.bounds-stack-t
 bounds-stack-t c = omega (arith, (walking (goal.at.bounds-stack-t c).In-loop-top).stacked.free, above (goal.at.bounds-stack-t c).In-loop-top)
@@ -71,34 +61,33 @@ pub leave-x-requires : goal.leave-x-requires
 leave-x-requires c =
     let z = (walking (goal.at.leave-x-requires c).After-shared_slice_known-12-1).sized in (
       ((reads (goal.at.leave-x-requires c).After-shared_slice_known-12-1).0, (reads (goal.at.leave-x-requires c).After-shared_slice_known-12-1).1, (reads (goal.at.leave-x-requires c).After-shared_slice_known-12-1).2, (reads (goal.at.leave-x-requires c).After-shared_slice_known-12-1).3),
-      (omega (arith, low (goal.at.leave-x-requires c).After-shared_slice_known-12-1, c.requires.1.1.1.1), omega (arith, low (goal.at.leave-x-requires c).After-shared_slice_known-12-1, z.ins_long), omega (arith, low (goal.at.leave-x-requires c).After-shared_slice_known-12-1, z.past_long)),
+      (omega (arith, low (goal.at.leave-x-requires c).After-shared_slice_known-12-1, c.requires.lengths.1), omega (arith, low (goal.at.leave-x-requires c).After-shared_slice_known-12-1, z.ins_long), omega (arith, low (goal.at.leave-x-requires c).After-shared_slice_known-12-1, z.past_long)),
     )
 
 pub offset_bounds-head-i : goal.offset_bounds-head-i
-offset_bounds-head-i c = omega (arith, small (turn (goal.at.offset_bounds-head-i c).After-leave-x))
+offset_bounds-head-i c = omega (arith, small (goal.at.offset_bounds-head-i c).In-loop-top)
 
 pub bounds-head-i : goal.bounds-head-i
-bounds-head-i c = let i = turn (left (goal.at.bounds-head-i c).After-shared_slice_known-in-loop-top-1-unread) in omega (arith, low i, (start i).pre.1.1.1.2)
+bounds-head-i c = omega (arith, low (goal.at.bounds-head-i c).In-loop-top, c.requires.lengths.2)
 
 pub send-top-requires : goal.send-top-requires
 send-top-requires c =
-    let i = turn (left (goal.at.send-top-requires c).After-shared_slice_known-in-loop-top-1) in
-    let s = start i in (
-      sendable (g i) _ _ _ _ _ s.pre.0 (linked i) (x i) (t i) (above i) (walking i) s.pre.1.1.1.0 s.pre.1.1.1.3,
-      first_low (g i) _ _ _ _ _ s.pre.0 (linked i) (x i) (t i) (above i) (walking i),
+    (
+      sendable (g (goal.at.send-top-requires c).In-loop-top) _ _ _ _ _ c.requires.setting (linked (goal.at.send-top-requires c).In-loop-top) (x (goal.at.send-top-requires c).In-loop-top) (t (goal.at.send-top-requires c).In-loop-top) (above (goal.at.send-top-requires c).In-loop-top) (walking (goal.at.send-top-requires c).In-loop-top) c.requires.lengths.0 c.requires.lengths.3,
+      first_low (g (goal.at.send-top-requires c).In-loop-top) _ _ _ _ _ c.requires.setting (linked (goal.at.send-top-requires c).In-loop-top) (x (goal.at.send-top-requires c).In-loop-top) (t (goal.at.send-top-requires c).In-loop-top) (above (goal.at.send-top-requires c).In-loop-top) (walking (goal.at.send-top-requires c).In-loop-top),
     )
 
 pub loop-top-smaller : goal.loop-top-smaller
 loop-top-smaller c =
     let v = c.leave-x.ensures in
-    (taken.turn (g (goal.at.loop-top-smaller c).In-loop-top) _ _ _ _ _ c.requires.0 (linked (goal.at.loop-top-smaller c).In-loop-top) (x (goal.at.loop-top-smaller c).In-loop-top) (t (goal.at.loop-top-smaller c).In-loop-top) (above (goal.at.loop-top-smaller c).In-loop-top) (walking (goal.at.loop-top-smaller c).In-loop-top) _ _ v.calls v.moves _ (sent (goal.at.loop-top-smaller c).After-slice_known-in-loop-top-5-1).send.ensures).1
+    (taken.turn (g (goal.at.loop-top-smaller c).In-loop-top) _ _ _ _ _ c.requires.setting (linked (goal.at.loop-top-smaller c).In-loop-top) (x (goal.at.loop-top-smaller c).In-loop-top) (t (goal.at.loop-top-smaller c).In-loop-top) (above (goal.at.loop-top-smaller c).In-loop-top) (walking (goal.at.loop-top-smaller c).In-loop-top) _ _ v.calls v.moves _ c.send-top.ensures).1
 
 pub loop-top-preserved : goal.loop-top-preserved
 loop-top-preserved c =
     let v = c.leave-x.ensures in
-    let k = (sent (goal.at.loop-top-preserved c).After-slice_known-in-loop-top-5-1).send.auto in
+    let k = c.send-top.auto in
     let o = c.loop-top.invariant in (
-      (taken.turn (g (goal.at.loop-top-preserved c).In-loop-top) _ _ _ _ _ c.requires.0 (linked (goal.at.loop-top-preserved c).In-loop-top) (x (goal.at.loop-top-preserved c).In-loop-top) (t (goal.at.loop-top-preserved c).In-loop-top) (above (goal.at.loop-top-preserved c).In-loop-top) (walking (goal.at.loop-top-preserved c).In-loop-top) _ _ v.calls v.moves _ (sent (goal.at.loop-top-preserved c).After-slice_known-in-loop-top-5-1).send.ensures).0,
+      (taken.turn (g (goal.at.loop-top-preserved c).In-loop-top) _ _ _ _ _ c.requires.setting (linked (goal.at.loop-top-preserved c).In-loop-top) (x (goal.at.loop-top-preserved c).In-loop-top) (t (goal.at.loop-top-preserved c).In-loop-top) (above (goal.at.loop-top-preserved c).In-loop-top) (walking (goal.at.loop-top-preserved c).In-loop-top) _ _ v.calls v.moves _ c.send-top.ensures).0,
       k.0 ∙ o.1,
       k.1.0 ∙ o.2,
       k.1.1.0 ∙ length-set c.loop-top.marks (get_or c.loop-top.stack (t (goal.at.loop-top-preserved c).In-loop-top) 0) 0 ∙ o.3,

@@ -8,23 +8,17 @@ use Rattle.records.specs.Records.{header_at, got}
 use Rattle.records.specs.Records.Rows.{header_told, header_ranges}
 use Rattle.text.specs.Text.Ends.{parse_none, parse_stop, parse_past}
 use borrow.Author.Rules.{rules}
-use Rattle.text.proofs.parse.Goals.{After-read_nodes-ran, In-At-2, In-Past-2}
+use Rattle.text.proofs.parse.Goals.{In-At}
 use Rattle.text.proofs.parse.Goals as goal
 
 -- what is known once the first row was read, and is right
-module _ (c : In-At-2) where
+module _ (c : In-At) where
 
   header : header_at c.args.s.now c.args.from ≡ got c.in-At.counts c.in-At.next
   header = header_told _ (sym c.read_header.ensures ∙ c.in-At.is)
 
   ranges : Ranges c.in-At.counts
   ranges = header_ranges _ _ header
-
-abbrev to-counts : tie.After-read-nodes → tie.After-counts
-to-counts c = c.before.before.before.before.before.before.before
-
-abbrev past-to-read : tie.After-ran2 → tie.After-read-nodes
-past-to-read c = c.before.before
 
 pub returns-in_default : goal.returns-in_default
 returns-in_default c = parse_none _ _ _ (header_told _ (sym c.read_header.ensures ∙ c.in_default.is))
@@ -33,23 +27,20 @@ pub overflow_add-first : goal.overflow_add-first
 overflow_add-first c = omega (arith, c.requires)
 
 pub read_nodes-ran-requires : goal.read_nodes-ran-requires
-read_nodes-ran-requires c = (omega (arith, c.requires), (ranges (goal.at.read_nodes-ran-requires c).In-At-2).n_high)
+read_nodes-ran-requires c = (omega (arith, c.requires), (ranges (goal.at.read_nodes-ran-requires c).In-At).n_high)
 
 pub overflow_add-first-in-Past : goal.overflow_add-first-in-Past
 overflow_add-first-in-Past c =
-    let counted = to-counts (past-to-read (goal.at.overflow_add-first-in-Past c).In-Past-2) in
-    omega (arith, (start counted).pre, (ranges counted).n_high)
+    omega (arith, c.requires, (ranges (goal.at.overflow_add-first-in-Past c).In-At).n_high)
 
 pub parse_edges-requires : goal.parse_edges-requires
 parse_edges-requires c =
-    let counted = to-counts (past-to-read (goal.at.parse_edges-requires c).In-Past-2) in
-    (omega (arith, (start counted).pre, (ranges counted).n_high), (ranges counted).m_high)
+    (omega (arith, c.requires, (ranges (goal.at.parse_edges-requires c).In-At).n_high), (ranges (goal.at.parse_edges-requires c).In-At).m_high)
 
 pub returns-in-Stop : goal.returns-in-Stop
 returns-in-Stop c =
-    parse_stop _ _ _ (header (to-counts (goal.at.returns-in-Stop c).After-read_nodes-ran)) c.read_nodes-ran.ensures.answer c.in-Stop.is
+    parse_stop _ _ _ (header (goal.at.returns-in-Stop c).In-At) c.read_nodes-ran.ensures.answer c.in-Stop.is
 
 pub returns-in-Past : goal.returns-in-Past
 returns-in-Past c =
-    let read = past-to-read (goal.at.returns-in-Past c).In-Past-2 in
-    parse_past _ _ _ (header (to-counts read)) read.read-nodes.ensures c.in-Past.is c.parse_edges.ensures
+    parse_past _ _ _ (header (goal.at.returns-in-Past c).In-At) c.read_nodes-ran.ensures c.in-Past.is c.parse_edges.ensures

@@ -6,7 +6,7 @@ use Rattle.handover.specs.Handover.{Lent, lent_of, Room}
 use Rattle.text.specs.Text.{text_at, on_meaning, reading_from, refuses}
 use Rattle.text.specs.Text.Laws.{sizes_refused, sizes_fit, tells_by}
 use borrow.Author.Rules.{rules}
-use Rattle.text.proofs.read_from.Goals.{After-slice_known-16-1, In_default}
+use Rattle.text.proofs.read_from.Goals.{In_default}
 use Rattle.text.proofs.read_from.Goals as goal
 
 -- what is known once the lengths were accepted
@@ -18,12 +18,6 @@ module _ (c : In_default) where
   sizes : Room lent × (reading_from lent c.args.text.now c.args.from c.args.row ≡ on_meaning (text_at c.args.text.now c.args.from c.args.row))
   sizes = sizes_fit lent c.args.text.now c.args.from c.args.row c.judge_sizes-judged.ensures c.in_default.is
 
-abbrev to-fit : tie.After-read-sized → tie.After-enum-told
-to-fit c = c.before.before.before.before.before.before.before.before.before
-
-abbrev to_read : tie.After-slice-known16 → tie.After-read-sized
-to_read c = c.before.before.before.before.before.before.before.before.before.before.before.before.before.before.before.before
-
 pub returns-in-Refused : goal.returns-in-Refused
 returns-in-Refused c = refuses (sizes_refused _ _ _ _ c.judge_sizes-judged.ensures c.in-Refused.is)
 
@@ -31,28 +25,28 @@ pub read_sized-requires : goal.read_sized-requires
 read_sized-requires c = (omega (arith, c.ranges.row), (sizes (goal.at.read_sized-requires c).In_default).0)
 
 pub shape_of-kinds : goal.shape_of-kinds
-shape_of-kinds c = (to_read (goal.at.shape_of-kinds c).After-slice_known-16-1).read-sized.auto.0
+shape_of-kinds c = c.read_sized.auto.0
 
 pub shape_of-checks : goal.shape_of-checks
-shape_of-checks c = (to_read (goal.at.shape_of-checks c).After-slice_known-16-1).read-sized.auto.1.0
+shape_of-checks c = c.read_sized.auto.1.0
 
 pub shape_of-privileged : goal.shape_of-privileged
-shape_of-privileged c = (to_read (goal.at.shape_of-privileged c).After-slice_known-16-1).read-sized.auto.1.1.0
+shape_of-privileged c = c.read_sized.auto.1.1.0
 
 pub shape_of-entries : goal.shape_of-entries
-shape_of-entries c = (to_read (goal.at.shape_of-entries c).After-slice_known-16-1).read-sized.auto.1.1.1.0
+shape_of-entries c = c.read_sized.auto.1.1.1.0
 
 pub shape_of-grants : goal.shape_of-grants
-shape_of-grants c = (to_read (goal.at.shape_of-grants c).After-slice_known-16-1).read-sized.auto.1.1.1.1.0
+shape_of-grants c = c.read_sized.auto.1.1.1.1.0
 
 pub shape_of-froms : goal.shape_of-froms
-shape_of-froms c = (to_read (goal.at.shape_of-froms c).After-slice_known-16-1).read-sized.auto.1.1.1.1.1.0
+shape_of-froms c = c.read_sized.auto.1.1.1.1.1.0
 
 pub shape_of-tos : goal.shape_of-tos
-shape_of-tos c = (to_read (goal.at.shape_of-tos c).After-slice_known-16-1).read-sized.auto.1.1.1.1.1.1.0
+shape_of-tos c = c.read_sized.auto.1.1.1.1.1.1.0
 
 pub shape_of-ways : goal.shape_of-ways
-shape_of-ways c = (to_read (goal.at.shape_of-ways c).After-slice_known-16-1).read-sized.auto.1.1.1.1.1.1.1.0
+shape_of-ways c = c.read_sized.auto.1.1.1.1.1.1.1.0
 
 pub returns : goal.returns
-returns c = let read = to_read (goal.at.returns c).After-slice_known-16-1 in tells_by (sizes (to-fit read)).1 read.read-sized.ensures
+returns c = tells_by (sizes (goal.at.returns c).In_default).1 c.read_sized.ensures

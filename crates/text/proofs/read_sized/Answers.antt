@@ -4,11 +4,11 @@ use mathlib.Core.Path.{refl, sym}
 use Rattle.handover.specs.Handover.{Lent, lent_of, Room}
 use Rattle.text.specs.Text.Laws.{wrong_tells, counted_tells, counted_room}
 use borrow.Author.Rules.{rules}
-use Rattle.text.proofs.read_sized.Goals.{After-tell, In-Counted-2}
+use Rattle.text.proofs.read_sized.Goals.{In-Counted}
 use Rattle.text.proofs.read_sized.Goals as goal
 
 -- what is known once the text was parsed, and says counts
-module _ (c : In-Counted-2) where
+module _ (c : In-Counted) where
 
 
   -- the arrays keep their lengths
@@ -17,68 +17,60 @@ module _ (c : In-Counted-2) where
       counted_room _ _ _ c.parse-parsed.ensures c.in-Counted.is
       (record { nodes = record { kinds = refl; checks = refl; privileged = refl; entries = refl; grants = refl }; edges = record { froms = refl; tos = refl; ways = refl } })
 
-abbrev to-counted : tie.After-hand-over → tie.After-parsed2
-to-counted c = c.before.before.before.before.before.before.before.before.before.before.before.before.before.before.before.before.before.before
-
-abbrev to-handed : tie.After-tell → tie.After-hand-over
-to-handed c = c.before.before.before.before.before.before.before.before.before.before.before.before.before.before.before.before.before
-
 pub parse-parsed-requires : goal.parse-parsed-requires
 parse-parsed-requires c = c.requires.0
 
 pub slice_bounds-hand_over-end : goal.slice_bounds-hand_over-end
-slice_bounds-hand_over-end c = sym (room (goal.at.slice_bounds-hand_over-end c).In-Counted-2).nodes.kinds
+slice_bounds-hand_over-end c = sym (room (goal.at.slice_bounds-hand_over-end c).In-Counted).nodes.kinds
 
 pub slice_bounds-hand_over-end-in-Counted : goal.slice_bounds-hand_over-end-in-Counted
-slice_bounds-hand_over-end-in-Counted c = sym (room (goal.at.slice_bounds-hand_over-end-in-Counted c).In-Counted-2).nodes.checks
+slice_bounds-hand_over-end-in-Counted c = sym (room (goal.at.slice_bounds-hand_over-end-in-Counted c).In-Counted).nodes.checks
 
 pub slice_bounds-hand_over-end-in-Counted-2 : goal.slice_bounds-hand_over-end-in-Counted-2
-slice_bounds-hand_over-end-in-Counted-2 c = sym (room (goal.at.slice_bounds-hand_over-end-in-Counted-2 c).In-Counted-2).nodes.privileged
+slice_bounds-hand_over-end-in-Counted-2 c = sym (room (goal.at.slice_bounds-hand_over-end-in-Counted-2 c).In-Counted).nodes.privileged
 
 pub slice_bounds-hand_over-end-in-Counted-3 : goal.slice_bounds-hand_over-end-in-Counted-3
-slice_bounds-hand_over-end-in-Counted-3 c = sym (room (goal.at.slice_bounds-hand_over-end-in-Counted-3 c).In-Counted-2).nodes.entries
+slice_bounds-hand_over-end-in-Counted-3 c = sym (room (goal.at.slice_bounds-hand_over-end-in-Counted-3 c).In-Counted).nodes.entries
 
 pub slice_bounds-hand_over-end-in-Counted-4 : goal.slice_bounds-hand_over-end-in-Counted-4
-slice_bounds-hand_over-end-in-Counted-4 c = sym (room (goal.at.slice_bounds-hand_over-end-in-Counted-4 c).In-Counted-2).nodes.grants
+slice_bounds-hand_over-end-in-Counted-4 c = sym (room (goal.at.slice_bounds-hand_over-end-in-Counted-4 c).In-Counted).nodes.grants
 
 pub slice_bounds-hand_over-end-in-Counted-5 : goal.slice_bounds-hand_over-end-in-Counted-5
-slice_bounds-hand_over-end-in-Counted-5 c = sym (room (goal.at.slice_bounds-hand_over-end-in-Counted-5 c).In-Counted-2).edges.froms
+slice_bounds-hand_over-end-in-Counted-5 c = sym (room (goal.at.slice_bounds-hand_over-end-in-Counted-5 c).In-Counted).edges.froms
 
 pub slice_bounds-hand_over-end-in-Counted-6 : goal.slice_bounds-hand_over-end-in-Counted-6
-slice_bounds-hand_over-end-in-Counted-6 c = sym (room (goal.at.slice_bounds-hand_over-end-in-Counted-6 c).In-Counted-2).edges.tos
+slice_bounds-hand_over-end-in-Counted-6 c = sym (room (goal.at.slice_bounds-hand_over-end-in-Counted-6 c).In-Counted).edges.tos
 
 pub slice_bounds-hand_over-end-in-Counted-7 : goal.slice_bounds-hand_over-end-in-Counted-7
-slice_bounds-hand_over-end-in-Counted-7 c = sym (room (goal.at.slice_bounds-hand_over-end-in-Counted-7 c).In-Counted-2).edges.ways
+slice_bounds-hand_over-end-in-Counted-7 c = sym (room (goal.at.slice_bounds-hand_over-end-in-Counted-7 c).In-Counted).edges.ways
 
 pub returns-in-Wrong : goal.returns-in-Wrong
 returns-in-Wrong c = wrong_tells _ _ _ c.parse-parsed.ensures c.in-Wrong.is
 
 pub shape_of-kinds : goal.shape_of-kinds
-shape_of-kinds c = (to-handed (goal.at.shape_of-kinds c).After-tell).hand-over.auto.1.1.1.1.1.1.1.1.1.0
+shape_of-kinds c = c.hand_over-judged.auto.1.1.1.1.1.1.1.1.1.0
 
 pub shape_of-checks : goal.shape_of-checks
-shape_of-checks c = (to-handed (goal.at.shape_of-checks c).After-tell).hand-over.auto.1.1.1.1.1.1.1.1.1.1.0
+shape_of-checks c = c.hand_over-judged.auto.1.1.1.1.1.1.1.1.1.1.0
 
 pub shape_of-privileged : goal.shape_of-privileged
-shape_of-privileged c = (to-handed (goal.at.shape_of-privileged c).After-tell).hand-over.auto.1.1.1.1.1.1.1.1.1.1.1.0
+shape_of-privileged c = c.hand_over-judged.auto.1.1.1.1.1.1.1.1.1.1.1.0
 
 pub shape_of-entries : goal.shape_of-entries
-shape_of-entries c = (to-handed (goal.at.shape_of-entries c).After-tell).hand-over.auto.1.1.1.1.1.1.1.1.1.1.1.1.0
+shape_of-entries c = c.hand_over-judged.auto.1.1.1.1.1.1.1.1.1.1.1.1.0
 
 pub shape_of-grants : goal.shape_of-grants
-shape_of-grants c = (to-handed (goal.at.shape_of-grants c).After-tell).hand-over.auto.1.1.1.1.1.1.1.1.1.1.1.1.1.0
+shape_of-grants c = c.hand_over-judged.auto.1.1.1.1.1.1.1.1.1.1.1.1.1.0
 
 pub shape_of-froms : goal.shape_of-froms
-shape_of-froms c = (to-handed (goal.at.shape_of-froms c).After-tell).hand-over.auto.1.1.1.1.1.1.1.1.1.1.1.1.1.1.0
+shape_of-froms c = c.hand_over-judged.auto.1.1.1.1.1.1.1.1.1.1.1.1.1.1.0
 
 pub shape_of-tos : goal.shape_of-tos
-shape_of-tos c = (to-handed (goal.at.shape_of-tos c).After-tell).hand-over.auto.1.1.1.1.1.1.1.1.1.1.1.1.1.1.1.0
+shape_of-tos c = c.hand_over-judged.auto.1.1.1.1.1.1.1.1.1.1.1.1.1.1.1.0
 
 pub shape_of-ways : goal.shape_of-ways
-shape_of-ways c = (to-handed (goal.at.shape_of-ways c).After-tell).hand-over.auto.1.1.1.1.1.1.1.1.1.1.1.1.1.1.1.1.0
+shape_of-ways c = c.hand_over-judged.auto.1.1.1.1.1.1.1.1.1.1.1.1.1.1.1.1.0
 
 pub returns-in-Counted : goal.returns-in-Counted
 returns-in-Counted c =
-    let handed = to-handed (goal.at.returns-in-Counted c).After-tell in
-    let counted = to-counted handed in
-    counted_tells _ _ _ (parsed counted).parse.ensures counted.parsed2.given.1 (record { nodes = record { kinds = refl; checks = refl; privileged = refl; entries = refl; grants = refl }; edges = record { froms = refl; tos = refl; ways = refl } }) (start counted).pre.1 handed.hand-over.ensures c.tell.ensures
+    counted_tells _ _ _ c.parse-parsed.ensures c.in-Counted.is (record { nodes = record { kinds = refl; checks = refl; privileged = refl; entries = refl; grants = refl }; edges = record { froms = refl; tos = refl; ways = refl } }) c.requires.1 c.hand_over-judged.ensures c.tell.ensures

@@ -28,12 +28,12 @@ returns-in-Refused c =
 pub store_nodes-requires : goal.store_nodes-requires
 store_nodes-requires c =
     let f = held_fine c.in_default.is c.judge_held-judged.ensures in
-    ((f.ranges.n_high, (room (goal.at.store_nodes-requires c).After-judge_held-judged).nodes), f.room.nodes)
+    record { n_bound = (f.ranges.n_high, (room (goal.at.store_nodes-requires c).After-judge_held-judged).nodes); nodes_long = f.room.nodes }
 
 pub store_edges-requires : goal.store_edges-requires
 store_edges-requires c =
     let f = held_fine c.in_default.is c.judge_held-judged.ensures in
-    ((f.ranges.m_high, (room (goal.at.store_edges-requires c).After-judge_held-judged).edges), f.room.edges)
+    record { m_bound = (f.ranges.m_high, (room (goal.at.store_edges-requires c).After-judge_held-judged).edges); edges_long = f.room.edges }
 
 pub returns : goal.returns
 returns c =

@@ -29,7 +29,7 @@ look_full-requires c =
     let a = accepted_is (rw c.in_default.is at c.check-judged.ensures) in
     let f = says_true c.stack_fits.ensures (c.if-not-stack_fits.false) in
     let n = a.shape.nodes in
-    ((f.held, omega (arith, f.held, f.slice), omega (arith, n.privileged, n.grants)), rw n.grants f.nodes)
+    record { sizes = (f.held, omega (arith, f.held, f.slice), omega (arith, n.privileged, n.grants)); frames = rw n.grants f.nodes }
 
 pub returns : goal.returns
 returns c =

@@ -35,7 +35,7 @@ pub look_quick-requires : goal.look_quick-requires
 look_quick-requires c =
     let l = says_true c.sets_long.ensures (c.if-not-sets_long.false) in
     let f = says_true c.stack_fits.ensures (c.if-not-stack_fits.false) in
-    ((f.held, omega (arith, f.held, f.slice), l.granted_long ∙ sym l.denied_long), rw l.denied_long f.nodes)
+    record { sizes = (f.held, omega (arith, f.held, f.slice), l.granted_long ∙ sym l.denied_long); frames = rw l.denied_long f.nodes }
 
 pub returns : goal.returns
 returns c =

@@ -11,7 +11,7 @@ use Rattle.frames.specs.Frames.{StackFits}
 use Rattle.machine.specs.Inspect.{Asks, graph, asked, stack}
 use Rattle.machine.specs.Steps.{Steps, StepRefuses}
 use borrow.Author.Rules.{rules}
-use Rattle.machine.proofs.step.Goals.{After-stack_fits, Else-not-stack_fits, In_default}
+use Rattle.machine.proofs.step.Goals.{Else-not-stack_fits, In_default}
 use Rattle.machine.proofs.step.Goals as goal
 
 module _ (c : In_default) where
@@ -24,16 +24,11 @@ module _ (c : In_default) where
   accepted : Acceptable g
   accepted = accepted_is (rw c.in_default.is at c.check-judged.ensures)
 
-module _ (c : Else-not-stack_fits) where
+  asks : c.args.next < g.size.n → StackFits g.size.n c.args.stack.now c.args.height → Asks g (c.args.next < g.size.n) c.args.stack.now c.args.height
+  asks b f = record { acceptable = accepted; below = b; fits = f }
 
-  abbrev slice : List ℕ
-  slice = c.args.stack.now
-
-  fits : StackFits (g (PLACE After-enum-told of c)).size.n slice c.args.height
-  fits = says_true c.stack_fits.ensures (c.if-not-stack_fits.false)
-
-  asks : Asks (g (PLACE After-enum-told of c)) (c.args.next < (g (PLACE After-enum-told of c)).size.n) slice c.args.height
-  asks = record { acceptable = accepted (PLACE After-enum-told of c); below = omega arith; fits = fits }
+fits : (c : Else-not-stack_fits) → StackFits c.args.size.n c.args.stack.now c.args.height
+fits c = says_true c.stack_fits.ensures c.if-not-stack_fits.false
 
 pub returns-in-Refused : goal.returns-in-Refused
 returns-in-Refused c = Steps.refused (StepRefuses.asks (graph (refused_is (rw c.in-Refused.is at c.check-judged.ensures))))
@@ -48,17 +43,18 @@ returns-then-not-stack_fits c =
 
 pub find_place-requires : goal.find_place-requires
 find_place-requires c =
-    let f = fits (goal.at.find_place-requires c).After-stack_fits in
+    let f = fits (goal.at.find_place-requires c).Else-not-stack_fits in
     let a = (accepted (goal.at.find_place-requires c).In_default).shape in
-    ((a.edges, omega (arith, a.nodes.entries), f.held), rw a.nodes.kinds f.nodes)
+    record { sizes = (a.edges, omega (arith, a.nodes.entries), f.held); frames = rw a.nodes.kinds f.nodes }
 
 pub move_to-requires : goal.move_to-requires
 move_to-requires c =
-    let f = fits (goal.at.move_to-requires c).After-stack_fits in
+    let f = fits (goal.at.move_to-requires c).Else-not-stack_fits in
     let a = (accepted (goal.at.move_to-requires c).In_default).shape in
     let n = a.nodes in
-    let p = place_low (rw c.in-At.is at c.find_place.ensures) in (
-      (
+    let p = place_low (rw c.in-At.is at c.find_place.ensures) in
+    record {
+      sizes = (
         f.held,
         omega (arith, f.held, f.slice),
         omega (arith, n.privileged, n.grants),
@@ -66,13 +62,13 @@ move_to-requires c =
         omega (arith, n.checks, n.grants),
         omega (arith, a.ranges.n_high),
         omega (arith, p, f.held, f.slice),
-      ),
-      rw n.grants f.nodes,
-    )
+      );
+      frames = rw n.grants f.nodes;
+    }
 
 pub returns-in-Nowhere : goal.returns-in-Nowhere
-returns-in-Nowhere c = Steps.refused (nowhere_refuses _ (asks (goal.at.returns-in-Nowhere c).After-stack_fits) (rw c.in-Nowhere.is at c.find_place.ensures))
+returns-in-Nowhere c = Steps.refused (nowhere_refuses _ (asks (goal.at.returns-in-Nowhere c).In_default (omega arith) (fits (goal.at.returns-in-Nowhere c).Else-not-stack_fits)) (rw c.in-Nowhere.is at c.find_place.ensures))
 
 pub returns-in-At : goal.returns-in-At
 returns-in-At c =
-    takes_steps _ (asks (goal.at.returns-in-At c).After-stack_fits) (rw c.in-At.is at c.find_place.ensures) c.move_to.ensures
+    takes_steps _ (asks (goal.at.returns-in-At c).In_default (omega arith) (fits (goal.at.returns-in-At c).Else-not-stack_fits)) (rw c.in-At.is at c.find_place.ensures) c.move_to.ensures

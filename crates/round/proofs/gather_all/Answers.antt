@@ -45,7 +45,7 @@ loop-e-preserved c =
     let here = c.loop-e in
     let a = c.args in
     let more = gather_more a.kinds.now a.checks.now a.tos.now (system_of a.sure) a.wide.now a.out.now _ _ (edge (goal.at.loop-e-preserved c).In-loop-e) _ _ _ _ _ _ c.counts-counted.ensures c.deliver.ensures here.invariant.1 here.invariant.2 in
-    (omega (arith, c.loop-e-test.true), more.0, more.1, c.deliver.auto.0 ∙ here.invariant.3, c.deliver.auto.1.0 ∙ here.invariant.4)
+    (omega (arith, c.loop-e-test.true), more.0, more.1, c.deliver.auto.ins ∙ here.invariant.3, c.deliver.auto.past ∙ here.invariant.4)
 
 pub shape_of-ins : goal.shape_of-ins
 shape_of-ins c = c.loop-e.invariant.3

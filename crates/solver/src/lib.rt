@@ -229,7 +229,7 @@ fn run(
     requires setting { Setting (graph_of size kinds.now checks.now privileged.now entries.now grants.now froms.now tos.now ways.now) (system_of sure) wide.now any.now }
     requires linked { Linked froms.now size.n head.now prev.now size.m }
     requires lengths { (size.m ≤ length wide.now) × (size.n ≤ length any.now) × (size.n ≤ length head.now) × (size.m ≤ length prev.now) }
-    requires lengths { size.m ≤ length out.old }
+    requires out_long { size.m ≤ length out.old }
     ensures ins_len { (length ins.new ≡ 1024) × (length past.new ≡ 1024) }
     ensures settled { Settled (graph_of size kinds.now checks.now privileged.now entries.now grants.now froms.now tos.now ways.now) (system_of sure) wide.now any.now ins.new past.new out.new }
 {

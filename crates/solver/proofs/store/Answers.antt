@@ -13,10 +13,10 @@ pub slice_bounds-link-end-2 : goal.slice_bounds-link-end-2
 slice_bounds-link-end-2 c = refl
 
 pub slice_bounds-run-end : goal.slice_bounds-run-end
-slice_bounds-run-end c = sym c.link.auto.0
+slice_bounds-run-end c = sym c.link.auto.head
 
 pub slice_bounds-run-end-2 : goal.slice_bounds-run-end-2
-slice_bounds-run-end-2 c = sym c.link.auto.1.0
+slice_bounds-run-end-2 c = sym c.link.auto.prev
 
 pub run-requires : goal.run-requires
 run-requires c =
@@ -40,10 +40,10 @@ pub slice_bounds-store_sure-end-2 : goal.slice_bounds-store_sure-end-2
 slice_bounds-store_sure-end-2 c = sym c.run.ensures.0.1
 
 pub slice_bounds-store_sure-end-3 : goal.slice_bounds-store_sure-end-3
-slice_bounds-store_sure-end-3 c = sym c.link.auto.0
+slice_bounds-store_sure-end-3 c = sym c.link.auto.head
 
 pub slice_bounds-store_sure-end-4 : goal.slice_bounds-store_sure-end-4
-slice_bounds-store_sure-end-4 c = sym c.link.auto.1.0
+slice_bounds-store_sure-end-4 c = sym c.link.auto.prev
 
 pub store_sure-requires : goal.store_sure-requires
 store_sure-requires c =
@@ -65,18 +65,6 @@ store_sure-requires c =
         ),
       ),
     )
-
-pub shape_of-denied : goal.shape_of-denied
-shape_of-denied c = c.store_sure.auto.0
-
-pub shape_of-granted : goal.shape_of-granted
-shape_of-granted c = c.store_sure.auto.1.0
-
-pub shape_of-may : goal.shape_of-may
-shape_of-may c = c.run.auto.1.1.0
-
-pub shape_of-sure : goal.shape_of-sure
-shape_of-sure c = c.store_sure.auto.1.1.0
 
 pub returns : goal.returns
 returns c = c.store_sure.ensures

@@ -24,29 +24,5 @@ returns-in-Refused c = refuses (sizes_refused _ _ _ _ c.judge_sizes-judged.ensur
 pub read_sized-requires : goal.read_sized-requires
 read_sized-requires c = (omega (arith, c.ranges.row), (sizes (goal.at.read_sized-requires c).In_default).0)
 
-pub shape_of-kinds : goal.shape_of-kinds
-shape_of-kinds c = c.read_sized.auto.0
-
-pub shape_of-checks : goal.shape_of-checks
-shape_of-checks c = c.read_sized.auto.1.0
-
-pub shape_of-privileged : goal.shape_of-privileged
-shape_of-privileged c = c.read_sized.auto.1.1.0
-
-pub shape_of-entries : goal.shape_of-entries
-shape_of-entries c = c.read_sized.auto.1.1.1.0
-
-pub shape_of-grants : goal.shape_of-grants
-shape_of-grants c = c.read_sized.auto.1.1.1.1.0
-
-pub shape_of-froms : goal.shape_of-froms
-shape_of-froms c = c.read_sized.auto.1.1.1.1.1.0
-
-pub shape_of-tos : goal.shape_of-tos
-shape_of-tos c = c.read_sized.auto.1.1.1.1.1.1.0
-
-pub shape_of-ways : goal.shape_of-ways
-shape_of-ways c = c.read_sized.auto.1.1.1.1.1.1.1.0
-
 pub returns : goal.returns
 returns c = tells_by (sizes (goal.at.returns c).In_default).1 c.read_sized.ensures

@@ -6,7 +6,7 @@ use native.Mathlib.Omega.{arith}
 use Rattle.text.specs.Text.Parts.{end_from, kept_row}
 use Rattle.text.specs.Text.Slots.{Slot, end_start, end_out, end_stop, end_step, slot_start, slot_out, slot_stop, slot_step, node_row, node_told}
 use borrow.Author.Rules.{rules}
-use Rattle.text.proofs.read_nodes.Goals.{After-read_node, After-way_told-in-loop-i-1}
+use Rattle.text.proofs.read_nodes.Goals.{After-read_node}
 use Rattle.text.proofs.read_nodes.Goals as goal
 
 -- the row that was read
@@ -29,7 +29,7 @@ pub loop-i-preserved : goal.loop-i-preserved
 loop-i-preserved c =
     let h = c.loop-i-test.true in
     let v = c.loop-i.invariant in
-    let w = row (goal.at.loop-i-preserved c).After-way_told-in-loop-i-1 c.in-At.is in
+    let w = row (goal.at.loop-i-preserved c).After-read_node c.in-At.is in
     (end_step _ _ _ _ h w v.0, slot_step _ _ _ v.1 h w, slot_step _ _ _ v.2 h w, slot_step _ _ _ v.3 h w, slot_step _ _ _ v.4 h w, slot_step _ _ _ v.5 h w)
 
 pub returns : goal.returns

@@ -47,30 +47,6 @@ slice_bounds-hand_over-end-in-Counted-7 c = sym (room (goal.at.slice_bounds-hand
 pub returns-in-Wrong : goal.returns-in-Wrong
 returns-in-Wrong c = wrong_tells _ _ _ c.parse-parsed.ensures c.in-Wrong.is
 
-pub shape_of-kinds : goal.shape_of-kinds
-shape_of-kinds c = c.hand_over-judged.auto.1.1.1.1.1.1.1.1.1.0
-
-pub shape_of-checks : goal.shape_of-checks
-shape_of-checks c = c.hand_over-judged.auto.1.1.1.1.1.1.1.1.1.1.0
-
-pub shape_of-privileged : goal.shape_of-privileged
-shape_of-privileged c = c.hand_over-judged.auto.1.1.1.1.1.1.1.1.1.1.1.0
-
-pub shape_of-entries : goal.shape_of-entries
-shape_of-entries c = c.hand_over-judged.auto.1.1.1.1.1.1.1.1.1.1.1.1.0
-
-pub shape_of-grants : goal.shape_of-grants
-shape_of-grants c = c.hand_over-judged.auto.1.1.1.1.1.1.1.1.1.1.1.1.1.0
-
-pub shape_of-froms : goal.shape_of-froms
-shape_of-froms c = c.hand_over-judged.auto.1.1.1.1.1.1.1.1.1.1.1.1.1.1.0
-
-pub shape_of-tos : goal.shape_of-tos
-shape_of-tos c = c.hand_over-judged.auto.1.1.1.1.1.1.1.1.1.1.1.1.1.1.1.0
-
-pub shape_of-ways : goal.shape_of-ways
-shape_of-ways c = c.hand_over-judged.auto.1.1.1.1.1.1.1.1.1.1.1.1.1.1.1.1.0
-
 pub returns-in-Counted : goal.returns-in-Counted
 returns-in-Counted c =
     counted_tells _ _ _ c.parse-parsed.ensures c.in-Counted.is (record { nodes = record { kinds = refl; checks = refl; privileged = refl; entries = refl; grants = refl }; edges = record { froms = refl; tos = refl; ways = refl } }) c.requires.1 c.hand_over-judged.ensures c.tell.ensures

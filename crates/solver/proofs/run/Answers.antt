@@ -16,45 +16,47 @@ pub walk-requires : goal.walk-requires
 walk-requires c =
     let b = c.begin in
     let f = c.fill in
-    let p = c.requires.setting in
-    let shape = p.0.acc.shape in
+    let p = c.requires in
+    let shape = p.setting.acc.shape in
     let high = shape.ranges.n_high in
     let marks = length-replicate {A = ℕ} 1024 1 in
-    let places = length-replicate {A = ℕ} 1024 0 in (
-      p.0,
-      (
-        walk_begins _ _ _ _ _ _ _ _ p.0.acc (begins_begun _ _ _ _ _ _ _ _ (record {
+    let places = length-replicate {A = ℕ} 1024 0 in
+    record {
+      setting = p.setting;
+      walking =
+        walk_begins _ _ _ _ _ _ _ _ p.setting.acc (begins_begun _ _ _ _ _ _ _ _ (record {
           ins_long = omega (arith, c.begin-arg-1.given.0.1, high);
           past_long = omega (arith, c.begin-arg-2-1.given.0.1, high);
           checks_long = omega (arith, shape.nodes.checks);
           entries_long = omega (arith, shape.nodes.entries);
           grants_long = omega (arith, shape.nodes.grants);
-        }) b.ensures) (omega (arith, c.walk-arg-1.given.0.1, high)) (omega (arith, c.walk-arg-2-1.given.0.1, high)) (omega (arith, marks, high)) (omega (arith, f.kept.0, high))
-            (λ j l. get_or-replicate 1024 j 1 0 l) (fills_all _ _ (omega (arith, places, high)) (omega (arith, high)) f.ensures),
-        (p.1.0, p.1.1.0),
-      ),
-    )
+        }) b.ensures) (omega (arith, c.walk-arg-1.given.0.1, high)) (omega (arith, c.walk-arg-2-1.given.0.1, high)) (omega (arith, marks, high)) (omega (arith, f.auto.stack, high))
+            (λ j l. get_or-replicate 1024 j 1 0 l) (fills_all _ _ (omega (arith, places, high)) (omega (arith, high)) f.ensures);
+      linked = p.linked;
+      lengths = p.lengths;
+    }
 
 -- at the end: the out sets stored, what the walk left of the sums, and that these have a place for each node still
 module _ (c : After-slice_known-2-1) where
 
 
-  ins_long : length c.walk.last.0 ≡ 1024
-  ins_long = c.walk.kept.0 ∙ c.walk-arg-1.given.0.1
+  ins_long : length c.walk.new.ins ≡ 1024
+  ins_long = c.walk.auto.ins ∙ c.walk-arg-1.given.0.1
 
-  past_long : length c.walk.last.1.0 ≡ 1024
-  past_long = c.walk.kept.1.0 ∙ c.walk-arg-2-1.given.0.1
+  past_long : length c.walk.new.past ≡ 1024
+  past_long = c.walk.auto.past ∙ c.walk-arg-2-1.given.0.1
 
 pub returns : goal.returns
 returns c =
-    let p = c.requires.setting in
+    let p = c.requires in
     let walking = c.walk.ensures in
-    let high = p.0.acc.shape.ranges.n_high in (
-      (ins_long (goal.at.returns c).After-slice_known-2-1, past_long (goal.at.returns c).After-slice_known-2-1),
-      record {
-        setting = p.0;
+    let high = p.setting.acc.shape.ranges.n_high in
+    record {
+      ins_len = (ins_long (goal.at.returns c).After-slice_known-2-1, past_long (goal.at.returns c).After-slice_known-2-1);
+      settled = record {
+        setting = p.setting;
         good = walking.pending.good;
-        quiet = rested _ _ _ _ _ _ p.0 p.1.0 _ refl walking;
-        stored = spreads_all _ _ _ _ _ _ p.0.acc (omega (arith, p.1.1.1)) p.1.1.0.1 (omega (arith, ins_long (goal.at.returns c).After-slice_known-2-1, high)) (omega (arith, past_long (goal.at.returns c).After-slice_known-2-1, high)) c.spread.ensures;
-      },
-    )
+        quiet = rested _ _ _ _ _ _ p.setting p.linked _ refl walking;
+        stored = spreads_all _ _ _ _ _ _ p.setting.acc (omega (arith, p.out_long)) p.lengths.1 (omega (arith, ins_long (goal.at.returns c).After-slice_known-2-1, high)) (omega (arith, past_long (goal.at.returns c).After-slice_known-2-1, high)) c.spread.ensures;
+      };
+    }

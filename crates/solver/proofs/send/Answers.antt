@@ -51,12 +51,12 @@ pub loop-cur-preserved : goal.loop-cur-preserved
 loop-cur-preserved c =
     let here = c.loop-cur in
     let a = c.arrive-t in (
-      sent_one _ _ _ _ _ _ _ _ _ _ c.requires.sendable.down _ _ _ (edge (goal.at.loop-cur-preserved c).In-loop-cur) _ _ _ (omega arith) (own (goal.at.loop-cur-preserved c).In-loop-cur) c.bring-x.ensures a.ensures ∙ here.inv.0,
+      sent_one _ _ _ _ _ _ _ _ _ _ c.requires.sendable.down _ _ _ (edge (goal.at.loop-cur-preserved c).In-loop-cur) _ _ _ (omega arith) (own (goal.at.loop-cur-preserved c).In-loop-cur) c.bring-x.ensures a.ensures ∙ here.invariant.0,
       omega (arith, own (goal.at.loop-cur-preserved c).In-loop-cur, low (goal.at.loop-cur-preserved c).In-loop-cur),
-      a.kept.0 ∙ here.inv.2,
-      a.kept.1.0 ∙ here.inv.3,
-      a.kept.1.1.0 ∙ here.inv.4,
-      a.kept.1.1.1.0 ∙ here.inv.5,
+      a.auto.ins ∙ here.invariant.2,
+      a.auto.past ∙ here.invariant.3,
+      a.auto.marks ∙ here.invariant.4,
+      a.auto.stack ∙ here.invariant.5,
     )
 
 pub shape_of-ins : goal.shape_of-ins

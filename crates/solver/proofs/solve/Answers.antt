@@ -9,10 +9,9 @@ use Rattle.solver.proofs.solve.Goals as goal
 pub returns-then-not-results_long : goal.returns-then-not-results_long
 returns-then-not-results_long c = refused (results (says_false c.results_long.ensures (c.if-not-results_long.true)))
 
--- below, `told` is the place where the graph was told acceptable, `checked` where it was judged, `tested` where the lengths were
 pub store-requires : goal.store-requires
 store-requires c =
-    (accepted_is (rw c.in-Accepted.is at c.check-judged.ensures), says_true c.results_long.ensures (c.if-not-results_long.false))
+    record { acceptable = accepted_is (rw c.in-Accepted.is at c.check-judged.ensures); results_long = says_true c.results_long.ensures c.if-not-results_long.false }
 
 pub returns-in-Accepted : goal.returns-in-Accepted
 returns-in-Accepted c =

@@ -22,22 +22,20 @@ pub run-requires : goal.run-requires
 run-requires c =
     let k = c.link in
     let p = c.requires.acceptable in
-    let r = p.0.shape.ranges in (
-      record { acc = p.0; any = tt },
-      (
-        lists_linked _ _ _ p.0 (λ i l. get_or-replicate 1024 i 0 0 l) (omega (arith, r.n_high)) (omega (arith, r.m_high)) k.ensures,
-        (
-          (omega (arith, p.1.sure_long), omega (arith, p.0.shape.nodes.grants), omega (arith, k.kept.0, r.n_high), omega (arith, k.kept.1.0, r.m_high)),
-          omega (arith, p.1.may_long),
-        ),
-      ),
-    )
+    let long = c.requires.results_long in
+    let r = p.shape.ranges in
+    record {
+      setting = record { acc = p; any = tt };
+      linked = lists_linked _ _ _ p (λ i l. get_or-replicate 1024 i 0 0 l) (omega (arith, r.n_high)) (omega (arith, r.m_high)) k.ensures;
+      lengths = (omega (arith, long.sure_long), omega (arith, p.shape.nodes.grants), omega (arith, k.auto.head, r.n_high), omega (arith, k.auto.prev, r.m_high));
+      out_long = omega (arith, long.may_long);
+    }
 
 pub slice_bounds-store_sure-end : goal.slice_bounds-store_sure-end
-slice_bounds-store_sure-end c = sym c.run.ensures.0.0
+slice_bounds-store_sure-end c = sym c.run.ensures.ins_len.0
 
 pub slice_bounds-store_sure-end-2 : goal.slice_bounds-store_sure-end-2
-slice_bounds-store_sure-end-2 c = sym c.run.ensures.0.1
+slice_bounds-store_sure-end-2 c = sym c.run.ensures.ins_len.1
 
 pub slice_bounds-store_sure-end-3 : goal.slice_bounds-store_sure-end-3
 slice_bounds-store_sure-end-3 c = sym c.link.auto.head
@@ -50,21 +48,19 @@ store_sure-requires c =
     let k = c.link in
     let m = c.run in
     let p = c.requires.acceptable in
-    let r = p.0.shape.ranges in (
-      m.ensures.1,
-      (
-        lists_linked _ _ _ p.0 (λ i l. get_or-replicate 1024 i 0 0 l) (omega (arith, r.n_high)) (omega (arith, r.m_high)) k.ensures,
-        (
-          (omega (arith, m.ensures.0.0, r.n_high), omega (arith, m.ensures.0.1, r.n_high), omega (arith, k.kept.0, r.n_high), omega (arith, k.kept.1.0, r.m_high)),
-          record {
-            denied_long = p.1.denied_long;
-            granted_long = p.1.granted_long;
-            may_long = omega (arith, m.kept.1.1.0, p.1.may_long);
-            sure_long = p.1.sure_long;
-          },
-        ),
-      ),
-    )
+    let long = c.requires.results_long in
+    let r = p.shape.ranges in
+    record {
+      settled = m.ensures.settled;
+      linked = lists_linked _ _ _ p (λ i l. get_or-replicate 1024 i 0 0 l) (omega (arith, r.n_high)) (omega (arith, r.m_high)) k.ensures;
+      lengths = (omega (arith, m.ensures.ins_len.0, r.n_high), omega (arith, m.ensures.ins_len.1, r.n_high), omega (arith, k.auto.head, r.n_high), omega (arith, k.auto.prev, r.m_high));
+      results_long = record {
+        denied_long = long.denied_long;
+        granted_long = long.granted_long;
+        may_long = omega (arith, m.auto.out, long.may_long);
+        sure_long = long.sure_long;
+      };
+    }
 
 pub returns : goal.returns
 returns c = c.store_sure.ensures

@@ -8,7 +8,7 @@ use Rattle.flow.specs.Walk.{system_of, state, State, to_do, Walking}
 use Rattle.worklist.specs.Worklist.{Linked}
 use Rattle.flow.specs.Walk.Taken.{top_low, node_reads, first_low, sendable}
 use Rattle.flow.specs.Walk.Taken as taken
-use Rattle.solver.proofs.walk.Goals.{After-shared_slice_known-12-1, After-slice_known-in-loop-top-5-1, In-loop-top}
+use Rattle.solver.proofs.walk.Goals.{In-loop-top}
 use Rattle.solver.proofs.walk.Goals as goal
 
 -- what a turn knows
@@ -41,10 +41,6 @@ module _ (c : In-loop-top) where
   reads : (get_or c.loop-top.stack t 0 < length c.args.kinds.now) × (get_or c.loop-top.stack t 0 < length c.args.checks.now) × (get_or c.loop-top.stack t 0 < length c.args.privileged.now) × (get_or c.loop-top.stack t 0 < length c.args.grants.now)
   reads = node_reads g _ _ _ _ _ c.requires.setting linked x t above walking
 
--- the turn keeps the invariant, and less is left to do
-module _ (c : After-slice_known-in-loop-top-5-1) where
-
-
 pub loop-top-init : goal.loop-top-init
 loop-top-init c = (c.requires.walking, refl, refl, refl, refl)
 
@@ -59,9 +55,9 @@ bounds-marks-i c = omega (arith, low (goal.at.bounds-marks-i c).In-loop-top, (wa
 
 pub leave-x-requires : goal.leave-x-requires
 leave-x-requires c =
-    let z = (walking (goal.at.leave-x-requires c).After-shared_slice_known-12-1).sized in (
-      ((reads (goal.at.leave-x-requires c).After-shared_slice_known-12-1).0, (reads (goal.at.leave-x-requires c).After-shared_slice_known-12-1).1, (reads (goal.at.leave-x-requires c).After-shared_slice_known-12-1).2, (reads (goal.at.leave-x-requires c).After-shared_slice_known-12-1).3),
-      (omega (arith, low (goal.at.leave-x-requires c).After-shared_slice_known-12-1, c.requires.lengths.1), omega (arith, low (goal.at.leave-x-requires c).After-shared_slice_known-12-1, z.ins_long), omega (arith, low (goal.at.leave-x-requires c).After-shared_slice_known-12-1, z.past_long)),
+    let z = (walking (goal.at.leave-x-requires c).In-loop-top).sized in (
+      ((reads (goal.at.leave-x-requires c).In-loop-top).0, (reads (goal.at.leave-x-requires c).In-loop-top).1, (reads (goal.at.leave-x-requires c).In-loop-top).2, (reads (goal.at.leave-x-requires c).In-loop-top).3),
+      (omega (arith, low (goal.at.leave-x-requires c).In-loop-top, c.requires.lengths.1), omega (arith, low (goal.at.leave-x-requires c).In-loop-top, z.ins_long), omega (arith, low (goal.at.leave-x-requires c).In-loop-top, z.past_long)),
     )
 
 pub offset_bounds-head-i : goal.offset_bounds-head-i
@@ -72,11 +68,12 @@ bounds-head-i c = omega (arith, low (goal.at.bounds-head-i c).In-loop-top, c.req
 
 pub send-top-requires : goal.send-top-requires
 send-top-requires c =
-    (
-      sendable (g (goal.at.send-top-requires c).In-loop-top) _ _ _ _ _ c.requires.setting (linked (goal.at.send-top-requires c).In-loop-top) (x (goal.at.send-top-requires c).In-loop-top) (t (goal.at.send-top-requires c).In-loop-top) (above (goal.at.send-top-requires c).In-loop-top) (walking (goal.at.send-top-requires c).In-loop-top) c.requires.lengths.0 c.requires.lengths.3,
-      first_low (g (goal.at.send-top-requires c).In-loop-top) _ _ _ _ _ c.requires.setting (linked (goal.at.send-top-requires c).In-loop-top) (x (goal.at.send-top-requires c).In-loop-top) (t (goal.at.send-top-requires c).In-loop-top) (above (goal.at.send-top-requires c).In-loop-top) (walking (goal.at.send-top-requires c).In-loop-top),
-    )
+    record {
+      sendable = sendable (g (goal.at.send-top-requires c).In-loop-top) _ _ _ _ _ c.requires.setting (linked (goal.at.send-top-requires c).In-loop-top) (x (goal.at.send-top-requires c).In-loop-top) (t (goal.at.send-top-requires c).In-loop-top) (above (goal.at.send-top-requires c).In-loop-top) (walking (goal.at.send-top-requires c).In-loop-top) c.requires.lengths.0 c.requires.lengths.3;
+      first_in_bounds = first_low (g (goal.at.send-top-requires c).In-loop-top) _ _ _ _ _ c.requires.setting (linked (goal.at.send-top-requires c).In-loop-top) (x (goal.at.send-top-requires c).In-loop-top) (t (goal.at.send-top-requires c).In-loop-top) (above (goal.at.send-top-requires c).In-loop-top) (walking (goal.at.send-top-requires c).In-loop-top);
+    }
 
+-- the turn keeps the invariant, and less is left to do
 pub loop-top-smaller : goal.loop-top-smaller
 loop-top-smaller c =
     let v = c.leave-x.ensures in
@@ -88,10 +85,10 @@ loop-top-preserved c =
     let k = c.send-top.auto in
     let o = c.loop-top.invariant in (
       (taken.turn (g (goal.at.loop-top-preserved c).In-loop-top) _ _ _ _ _ c.requires.setting (linked (goal.at.loop-top-preserved c).In-loop-top) (x (goal.at.loop-top-preserved c).In-loop-top) (t (goal.at.loop-top-preserved c).In-loop-top) (above (goal.at.loop-top-preserved c).In-loop-top) (walking (goal.at.loop-top-preserved c).In-loop-top) _ _ v.calls v.moves _ c.send-top.ensures).0,
-      k.0 ∙ o.1,
-      k.1.0 ∙ o.2,
-      k.1.1.0 ∙ length-set c.loop-top.marks (get_or c.loop-top.stack (t (goal.at.loop-top-preserved c).In-loop-top) 0) 0 ∙ o.3,
-      k.1.1.1.0 ∙ o.4,
+      k.ins ∙ o.1,
+      k.past ∙ o.2,
+      k.marks ∙ length-set c.loop-top.marks (get_or c.loop-top.stack (t (goal.at.loop-top-preserved c).In-loop-top) 0) 0 ∙ o.3,
+      k.stack ∙ o.4,
     )
 
 pub shape_of-ins : goal.shape_of-ins

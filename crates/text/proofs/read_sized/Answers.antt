@@ -1,5 +1,4 @@
 -- The text is parsed into arrays of this function's own, so that the lent slices are as they were until the graph is handed over.
--- ---- the way back from a place
 use mathlib.Core.Path.{refl, sym}
 use Rattle.handover.specs.Handover.{Lent, lent_of, Room}
 use Rattle.text.specs.Text.Laws.{wrong_tells, counted_tells, counted_room}
@@ -9,10 +8,8 @@ use Rattle.text.proofs.read_sized.Goals as goal
 
 -- what is known once the text was parsed, and says counts
 module _ (c : In-Counted) where
-
-
   -- the arrays keep their lengths
-  room : Room (lent_of c.parse-parsed.last.0 c.parse-parsed.last.1.0 c.parse-parsed.last.1.1.0 c.parse-parsed.last.1.1.1.0 c.parse-parsed.last.1.1.1.1.0 c.parse-parsed.last.1.1.1.1.1.0 c.parse-parsed.last.1.1.1.1.1.1.0 c.parse-parsed.last.1.1.1.1.1.1.1.0)
+  room : Room (lent_of c.parse-parsed.new.kinds c.parse-parsed.new.checks c.parse-parsed.new.privileged c.parse-parsed.new.entries c.parse-parsed.new.grants c.parse-parsed.new.froms c.parse-parsed.new.tos c.parse-parsed.new.ways)
   room =
       counted_room _ _ _ c.parse-parsed.ensures c.in-Counted.is
       (record { nodes = record { kinds = refl; checks = refl; privileged = refl; entries = refl; grants = refl }; edges = record { froms = refl; tos = refl; ways = refl } })

@@ -124,8 +124,8 @@ fn leave(
     ins: &[u64],
     past: &[u64],
 ) -> Leaving
-    requires i_in_bounds { (i < length kinds.now) × (i < length checks.now) × (i < length privileged.now) × (i < length grants.now) }
-    requires i_in_bounds_2 { (i < length any.now) × (i < length ins.now) × (i < length past.now) }
+    requires node { (i < length kinds.now) × (i < length checks.now) × (i < length privileged.now) × (i < length grants.now) }
+    requires sums { (i < length any.now) × (i < length ins.now) × (i < length past.now) }
     ensures { LeavesAt kinds.now checks.now privileged.now grants.now (system_of sure) any.now ins.now past.now i result.call result.trans }
 {
     flow::leave(

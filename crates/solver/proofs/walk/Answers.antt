@@ -55,10 +55,12 @@ bounds-marks-i c = omega (arith, low (goal.at.bounds-marks-i c).In-loop-top, (wa
 
 pub leave-x-requires : goal.leave-x-requires
 leave-x-requires c =
-    let z = (walking (goal.at.leave-x-requires c).In-loop-top).sized in (
-      ((reads (goal.at.leave-x-requires c).In-loop-top).0, (reads (goal.at.leave-x-requires c).In-loop-top).1, (reads (goal.at.leave-x-requires c).In-loop-top).2, (reads (goal.at.leave-x-requires c).In-loop-top).3),
-      (omega (arith, low (goal.at.leave-x-requires c).In-loop-top, c.requires.lengths.1), omega (arith, low (goal.at.leave-x-requires c).In-loop-top, z.ins_long), omega (arith, low (goal.at.leave-x-requires c).In-loop-top, z.past_long)),
-    )
+    let i = (goal.at.leave-x-requires c).In-loop-top in
+    let z = (walking i).sized in
+    record {
+      node = ((reads i).0, (reads i).1, (reads i).2, (reads i).3);
+      sums = (omega (arith, low i, c.requires.lengths.1), omega (arith, low i, z.ins_long), omega (arith, low i, z.past_long));
+    }
 
 pub offset_bounds-head-i : goal.offset_bounds-head-i
 offset_bounds-head-i c = omega (arith, small (goal.at.offset_bounds-head-i c).In-loop-top)

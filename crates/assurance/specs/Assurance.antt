@@ -39,7 +39,7 @@ module _ (g : Graph) {before x : Slices} (stored : Solves g before Accepted x) w
       go (solved l a c) = (a, c)
 
   long : SetsLong g.size.n (length x.denied) (length x.granted)
-  long = record { denied_long = content.1.denied_stored.long; granted_long = content.1.Granted-stored.long }
+  long = record { denied_long = content.1.denied_stored.long; granted_long = content.1.granted_stored.long }
 
   -- `stack` holds a reachable stack under its height.
   module _ (stack : List ℕ) (height p : ℕ) (h : Reachable g (stack_of stack height)) where

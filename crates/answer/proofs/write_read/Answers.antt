@@ -2,11 +2,7 @@
 use native.Mathlib.Omega.{arith}
 use Rattle.answer.specs.Prints.Parts.{graph_read, nothing_read}
 use borrow.Author.Rules.{rules}
-use Rattle.answer.proofs.write_read.Goals.{In-Graph}
 use Rattle.answer.proofs.write_read.Goals as goal
-
-module _ (c : In-Graph) where
-
 
 pub slice_bounds-write_graph-end : goal.slice_bounds-write_graph-end
 slice_bounds-write_graph-end c = omega (arith, (c.requires _ c.in-Graph.is).nodes.kinds)

@@ -1,5 +1,5 @@
 # Sourced by every command that runs a proved program: builds it where it is missing or older than its sources, finds the loader that it runs under,
-# and runs it so that the exit status says what became of it. Rattle's programs have no exit status of their own.
+# and runs it so that the exit status says what became of it.
 #
 # A copy made by --install has the folders programs/ and loader/, and needs neither the sources nor the kit.
 
@@ -12,32 +12,38 @@ say() { echo "$command_name: $*" >&2 || true; }
 is_copy() { [ -d "$home/loader" ]; }
 
 # Where the program $1 stands, or is built to.
-program_file() { if is_copy; then echo "$home/programs/$1"; else echo "$home/target/bin/$1"; fi; }
+program_file() { if is_copy; then echo "$home/programs/$1"; else echo "$home/crates/$1/out/$1"; fi; }
 
 is_old() {
     local program
     program=$(program_file "$1")
-    [ ! -x "$program" ] || [ -n "$(find "$home/crates" "$home/crates.txt" -newer "$program" -print -quit)" ]
+    [ ! -x "$program" ] || [ -n "$(find "$home/crates" "$home/crates.txt" -name out -prune -o -newer "$program" -print -quit)" ]
 }
 
 need_kit() { command -v rt >/dev/null || { say 'the Rattle kit (rt) is not on the path'; return 1; }; }
 
-# Proves and builds the programs that are named, if one of them is old.
-build_programs() {
-    local program old=
-    is_copy && return
-    for program in "$@"; do ! is_old "$program" || old=1; done
-    [ -n "$old" ] || return 0
-    need_kit || return
-    say "proving and building $*; this takes some minutes, once"
-    (cd "$home" && rt check "$@" </dev/null 2>&1 | sed -un "s/^rt: /$command_name: /p" >&2; exit "${PIPESTATUS[0]}") ||
+# Proves and builds a program, and runs it over no input: there is no way to build one alone.
+build_program() {
+    (cd "$home/crates/$1" && rt run </dev/null 2>&1 >/dev/null | sed -un "s/^rt: /$command_name: /p" >&2; exit "${PIPESTATUS[0]}") ||
         { say 'the program was not proved'; return 1; }
     # A program that came out the same isn't written again.
-    for program in "$@"; do touch "$(program_file "$program")"; done
+    touch "$(program_file "$1")"
+}
+
+# Proves and builds those of the programs that are old.
+build_programs() {
+    local program
+    is_copy && return
+    for program in "$@"; do
+        is_old "$program" || continue
+        need_kit || return
+        say "proving and building $program; this takes some minutes, once"
+        build_program "$program" || return
+    done
 }
 
 # Sets `tools` to the folder with the loader and the C library of the programs, and `loader` to the words that a program is started by. Programs are for
-# x86-64; there is an emulator beside the loader where the processor is another.
+# x86-64; where the processor is another, there may be an emulator beside the loader.
 find_loader() {
     local rt
     if is_copy; then
@@ -45,7 +51,7 @@ find_loader() {
     else
         need_kit || return
         rt=$(readlink -f "$(command -v rt)")
-        tools=${RATTLE_HOME:-$(dirname "$(dirname "$rt")")}/on/$(uname -m)/toolchain
+        tools=${RATTLE_HOME:-$(dirname "$(dirname "$rt")")}/toolchain
     fi
     loader=("$tools/lib/ld-linux-x86-64.so.2" --library-path "$tools/lib")
     emulator=()

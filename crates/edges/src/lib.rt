@@ -1,5 +1,6 @@
 // Whether an edge of a kind leads from one node to another.
 #![tactic(auto)]
+
 ghost use Rattle.std.specs.Prelude.{◌≡◌, ◌<◌, length};
 ghost use Rattle.truth.specs.Truth.{Says, First};
 ghost use Rattle.graph.specs.Graph.{edges_of, edge_at, EdgesLong};

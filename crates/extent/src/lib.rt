@@ -1,6 +1,7 @@
 // How far slices and a text reach: whether slices have room for every graph, whether a text is short enough to be read, and whether it ends where its
 // rows do.
 #![tactic(auto)]
+
 ghost use Rattle.std.specs.Prelude.{◌≡◌};
 ghost use Rattle.truth.specs.Truth.{Says};
 ghost use Rattle.graph.specs.Graph.{nodes_of, edges_of};

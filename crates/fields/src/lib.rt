@@ -1,5 +1,6 @@
 // What a field of a row says.
 #![tactic(auto)]
+
 ghost use Rattle.std.specs.Prelude.{◌≡◌};
 ghost use Rattle.fields.specs.Fields.{letter_of, says, found, said_by, form_at, end_at};
 

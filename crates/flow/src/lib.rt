@@ -1,5 +1,6 @@
 // What a node and an edge pass on, by their numbers: the rules that the solver's walk applies. Every call takes any numbers.
 #![tactic(auto)]
+
 ghost use Rattle.std.specs.Prelude.{◌≡◌};
 ghost use Rattle.sets.specs.Sets.{has};
 ghost use Rattle.flow.specs.Walk.{system_of, start, merge, call_num, denied_num, past_num, trans_num, Leaves, edge_num, judged_num, counts_num, start_ins, start_past};

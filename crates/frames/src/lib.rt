@@ -1,5 +1,6 @@
 // What a stack's slice may be.
 #![tactic(auto)]
+
 ghost use Rattle.std.specs.Prelude.{◌≡◌, ◌≤◌, length};
 ghost use Rattle.truth.specs.Truth.{Says, First};
 ghost use Rattle.frames.specs.Frames.{Frame, StackFits};

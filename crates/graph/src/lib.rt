@@ -1,5 +1,6 @@
 // The graph's numbers: its kinds, its limits, its size, and why a call that is lent one is refused.
 #![tactic(auto)]
+
 ghost use Rattle.std.specs.Prelude.{◌≡◌};
 ghost use Rattle.graph.specs.Refusals.{numbered};
 

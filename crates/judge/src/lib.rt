@@ -1,5 +1,6 @@
 // Whether what a caller lends is a graph, or the lowest refusal that applies.
 #![tactic(auto)]
+
 ghost use Rattle.std.specs.Prelude.{◌≡◌, ◌<◌, length};
 ghost use Rattle.truth.specs.Truth.{Says, First};
 ghost use Rattle.graph.specs.Graph.{graph_of, nodes_of, edges_of, NodesAt, EdgeAt, NoEntry, NodesLong, EdgesLong};

@@ -1,5 +1,6 @@
 // RFC 4180: the field at a position of a text, and what follows it. A cursor is a position by value, an answer is an enum.
 #![tactic(auto)]
+
 ghost use Rattle.std.specs.Prelude.{◌≡◌};
 ghost use Rattle.lex.specs.Lex.{followed, quoted_at, field_at, comma_at, last_at};
 

@@ -1,5 +1,6 @@
 // The members of a set as bytes at a place of a lent buffer.
 #![tactic(auto)]
+
 ghost use Rattle.std.specs.Prelude.{◌≡◌, cond, [], ◌∷◌, ◌<◌, length};
 ghost use Rattle.writer.specs.Writer.{Puts};
 ghost use Rattle.members.specs.Members.{members_from, after_first, spaced, set_bytes};

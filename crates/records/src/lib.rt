@@ -1,5 +1,6 @@
 // Reads a row of a text by its fields: the first row, the parts of a node's, an edge's.
 #![tactic(auto)]
+
 ghost use Rattle.std.specs.Prelude.{◌≡◌};
 ghost use Rattle.records.specs.Records.{grants_at, three_at, lead_at, header_at, edge_at, granted_of, lead_row_of, three_row_of, edge_row_of, header_of};
 

@@ -1,5 +1,6 @@
 // Writes a refusal's row as bytes.
 #![tactic(auto)]
+
 ghost use Rattle.std.specs.Prelude.{◌≡◌, length};
 ghost use Rattle.writer.specs.Writer.{Puts};
 ghost use Rattle.refusals.specs.Writes.{refusal_row, refusal_bytes, Writes};

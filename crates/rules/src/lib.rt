@@ -1,5 +1,6 @@
 // The rules of a graph by numbers: of one node, of the ends of one edge, of the counts and of the slices' lengths.
 #![tactic(auto)]
+
 ghost use Rattle.std.specs.Prelude.{◌≡◌, ◌<◌};
 ghost use Rattle.truth.specs.Truth.{Says};
 ghost use Rattle.graph.specs.Graph.{privileged_by, nodes_of, edges_of, NodeRule, EndsRule, Ranges, NodesLong, EdgesLong, ShapeRule, ResultsLong};

@@ -1,6 +1,7 @@
 // What any reader of a text needs: a byte, a run of bytes of a class, a part of the text, a decimal number and an ascending list of them. A position is
 // a number by value, an answer is an enum, and a part is handed on as a slice of the caller's text.
 #![tactic(auto)]
+
 ghost use Rattle.std.specs.Prelude.{◌≡◌, ◌+◌, ◌≤◌, length, get_or, drop};
 ghost use Rattle.scan.specs.Scan.{belongs, run, part_of, digits_from, number_of, members_of, held_of};
 ghost use Rattle.scan.specs.Scan.Lists.{with_member};

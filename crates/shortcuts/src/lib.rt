@@ -1,5 +1,6 @@
 // Reads a node's or an edge's row, and those whose fields are all short in one pass.
 #![tactic(auto)]
+
 ghost use Rattle.std.specs.Prelude.{◌≡◌, ◌+◌, ◌≤◌, length};
 ghost use Rattle.truth.specs.Truth.{Says};
 ghost use Rattle.fields.specs.declared.Form.{Form};

@@ -1,5 +1,6 @@
 // What the denied and granted sets say of a check: it is needed, always passes, always fails, or is never reached.
 #![tactic(auto)]
+
 ghost use Rattle.std.specs.Prelude.{◌≡◌, ◌<◌, length, get_or};
 ghost use Rattle.truth.specs.Truth.{Says};
 ghost use Rattle.sets.specs.Sets.{has};

@@ -1,5 +1,6 @@
 // What a walk over nodes and edges keeps: lists of the edges that leave each node, and a stack of nodes with a mark for each that is on it.
 #![tactic(auto)]
+
 ghost use Rattle.std.specs.Prelude.{◌≡◌, ◌≤◌, ◌<◌, length, get_or};
 ghost use Rattle.truth.specs.Truth.{Says, All};
 ghost use Rattle.worklist.specs.Worklist.{Linkable, lists, link_to, Links, fresh, Put, count_down, Fills};

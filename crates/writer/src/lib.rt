@@ -1,5 +1,6 @@
 // Bytes at a place of a lent buffer: what any printer writes with. A byte past the buffer's end is counted and not written.
 #![tactic(auto)]
+
 ghost use Rattle.std.specs.Prelude.{◌≡◌, [], ◌∷◌, ◌+◌, ◌≤◌, ◌<◌, length};
 ghost use Rattle.io.specs.Digits.{hex_digit_ascii};
 ghost use Rattle.writer.specs.Writer.{decimal, place_of, Puts};

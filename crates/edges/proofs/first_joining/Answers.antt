@@ -1,9 +1,5 @@
-use Prim.Native.Nat.{◌-◌}
-use native.Mathlib.Omega.{arith}
 use borrow.Author.Rules.{rules}
-use Rattle.truth.specs.Truth.Tests.{Passed, passed_none, passed_more, passed_stop, passed_end, says_true, says_false}
-use Rattle.graph.specs.Graph.{edges_of, edge_at}
-use Rattle.edges.specs.Leading.Search.{Joins}
+use Rattle.truth.specs.Truth.Tests.{passed_none, passed_more, passed_stop, passed_end, says_true, says_false}
 use Rattle.edges.proofs.first_joining.Goals as goal
 
 pub loop-i-init : goal.loop-i-init

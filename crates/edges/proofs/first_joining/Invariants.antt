@@ -1,8 +1,6 @@
 -- The loop passes over edges that do not lead there: so far none of them does.
 use Prim.Native.Nat.{◌-◌}
-use native.Mathlib.Omega.{arith}
-use borrow.Author.Rules.{rules}
-use Rattle.truth.specs.Truth.Tests.{Passed, passed_none, passed_more, passed_stop, passed_end, says_true, says_false}
+use Rattle.truth.specs.Truth.Tests.{Passed}
 use Rattle.graph.specs.Graph.{edges_of, edge_at}
 use Rattle.edges.specs.Leading.Search.{Joins}
 use Rattle.edges.proofs.first_joining.Given as goal

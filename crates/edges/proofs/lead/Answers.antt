@@ -1,8 +1,6 @@
 use Rattle.truth.specs.Truth.{fails}
 use Rattle.truth.specs.Truth.Tests.{says_same, says_true, says_false}
 use Rattle.edges.specs.Leading.Search.{search_says}
-use borrow.Author.Tests.{not-true, not-false}
-use borrow.Author.Rules.{rules}
 use Rattle.edges.proofs.lead.Goals as goal
 
 pub returns-then-not-edges_long : goal.returns-then-not-edges_long

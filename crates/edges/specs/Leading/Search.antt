@@ -1,5 +1,5 @@
 -- The search for an edge that leads from one node to another, and what its answer says.
-use Rattle.std.specs.Prelude.{ℕ, ◌<◌, ◌≡◌, List, Bool, true, false, ltb, length}
+use Rattle.std.specs.Prelude.{ℕ, ◌≡◌, List, Bool, true, false, ltb, length}
 use Rattle.std.proofs.Common.{ltb-true, ltb-false, arith}
 use Rattle.truth.specs.Truth.{Says, holds, fails, First}
 use Rattle.truth.specs.Truth.Tests.{says_same, says_by, says_true, says_false, eq?}

@@ -1,6 +1,5 @@
 use mathlib.Core.Path.{sym}
 use Rattle.extent.specs.Extent.Laws.{end_wrong, end_more, end_done}
-use borrow.Author.Rules.{rules}
 use Rattle.extent.proofs.end_text.Goals as goal
 
 pub returns-then-q-len : goal.returns-then-q-len

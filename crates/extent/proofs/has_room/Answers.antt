@@ -1,7 +1,5 @@
 use Rattle.truth.specs.Truth.Tests.{says_same, says_true, says_false}
 use Rattle.truth.specs.Truth.{fails}
-use borrow.Author.Tests.{not-true, not-false}
-use borrow.Author.Rules.{rules}
 use Rattle.extent.proofs.has_room.Goals as goal
 
 pub returns-then-not-nodes_long : goal.returns-then-not-nodes_long

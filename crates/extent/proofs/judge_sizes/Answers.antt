@@ -1,7 +1,5 @@
-use borrow.Author.Tests.{not-true, not-false}
 use Rattle.truth.specs.Truth.Tests.{says_true, says_false}
 use Rattle.extent.specs.Extent.{cramped, long, fit}
-use borrow.Author.Rules.{rules}
 use Rattle.extent.proofs.judge_sizes.Goals as goal
 
 pub returns-then-not-has_room : goal.returns-then-not-has_room

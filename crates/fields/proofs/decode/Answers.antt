@@ -2,7 +2,6 @@ use mathlib.Core.Path.{sym, ◌∙◌, ap}
 use Rattle.fields.specs.declared.Form.{Form}
 use Rattle.fields.specs.Fields.{says}
 use Rattle.fields.specs.Fields.Forms.{number_says}
-use borrow.Author.Rules.{rules}
 use Rattle.fields.proofs.decode.Goals as goal
 
 pub returns-in-Tag : goal.returns-in-Tag

@@ -1,5 +1,4 @@
 use borrow.Author.Tests.{eq-eqb, ne_eqb}
-use borrow.Author.Rules.{rules}
 use Rattle.fields.proofs.letter.Goals as goal
 
 pub returns-then-l-eq1 : goal.returns-then-l-eq1

@@ -1,7 +1,6 @@
 use mathlib.Core.Path.{sym, ap}
 use Rattle.fields.specs.Fields.{found}
 use Rattle.scan.specs.declared.Decimal.{Decimal}
-use borrow.Author.Rules.{rules}
 use Rattle.fields.proofs.place.Goals as goal
 
 pub returns-in-Value : goal.returns-in-Value

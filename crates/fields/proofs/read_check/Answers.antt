@@ -1,6 +1,5 @@
 use mathlib.Core.Path.{sym, ◌∙◌}
 use Rattle.fields.specs.Fields.Forms.{check_there, check_none, empty_says}
-use borrow.Author.Rules.{rules}
 use Rattle.fields.proofs.read_check.Goals as goal
 
 pub returns-then-kind-eq-CHECK_NODE : goal.returns-then-kind-eq-CHECK_NODE

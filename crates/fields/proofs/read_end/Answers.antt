@@ -1,6 +1,5 @@
 use mathlib.Core.Path.{◌∙◌}
 use Rattle.fields.specs.Fields.Forms.{end_said}
-use borrow.Author.Rules.{rules}
 use Rattle.fields.proofs.read_end.Goals as goal
 
 pub returns : goal.returns

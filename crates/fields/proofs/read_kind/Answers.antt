@@ -1,6 +1,5 @@
 use mathlib.Core.Path.{sym}
 use Rattle.fields.specs.Fields.Forms.{kind_call, kind_return, kind_check, kind_none}
-use borrow.Author.Rules.{rules}
 use Rattle.fields.proofs.read_kind.Goals as goal
 
 pub returns-then-b-eq67 : goal.returns-then-b-eq67

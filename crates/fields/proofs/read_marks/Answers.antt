@@ -1,6 +1,5 @@
 use mathlib.Core.Path.{sym}
 use Rattle.fields.specs.Fields.Forms.{marks_empty, marks_p, marks_e, marks_long, marks_first, marks_second, marks_both}
-use borrow.Author.Rules.{rules}
 use Rattle.fields.proofs.read_marks.Goals as goal
 
 pub returns-then-l-eq0 : goal.returns-then-l-eq0

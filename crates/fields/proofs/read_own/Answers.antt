@@ -1,6 +1,5 @@
 use mathlib.Core.Path.{sym, ◌∙◌}
 use Rattle.fields.specs.Fields.Forms.{own_not, own_yes, own_other}
-use borrow.Author.Rules.{rules}
 use Rattle.fields.proofs.read_own.Goals as goal
 
 pub returns-in_default : goal.returns-in_default

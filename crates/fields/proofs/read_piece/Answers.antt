@@ -1,7 +1,6 @@
 use mathlib.Core.Path.{sym, ◌∙◌, ap}
 use Rattle.scan.specs.declared.Decimal.{Decimal}
 use Rattle.fields.specs.Fields.{says, found, said_by}
-use borrow.Author.Rules.{rules}
 use Rattle.fields.proofs.read_piece.Goals as goal
 
 pub returns-in_default : goal.returns-in_default

@@ -1,6 +1,5 @@
 use mathlib.Core.Path.{sym, ◌∙◌}
 use Rattle.fields.specs.Fields.Forms.{tag_yes, tag_no}
-use borrow.Author.Rules.{rules}
 use Rattle.fields.proofs.read_tag.Goals as goal
 
 pub returns-then-letter-b : goal.returns-then-letter-b

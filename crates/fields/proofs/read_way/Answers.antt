@@ -1,6 +1,5 @@
 use mathlib.Core.Path.{sym}
 use Rattle.fields.specs.Fields.Forms.{way_call, way_transfer, way_none}
-use borrow.Author.Rules.{rules}
 use Rattle.fields.proofs.read_way.Goals as goal
 
 pub returns-then-b-eq67 : goal.returns-then-b-eq67

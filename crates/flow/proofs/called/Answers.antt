@@ -1,5 +1,5 @@
 use Rattle.flow.specs.Walk.{call_num}
-use borrow.Author.Tests.{eq-eqb, ne_eqb, not-true, not-false}
+use borrow.Author.Tests.{eq-eqb, ne_eqb}
 use Rattle.flow.proofs.called.Goals as goal
 
 pub returns-then-privileged-eq-MARKED : goal.returns-then-privileged-eq-MARKED

@@ -1,6 +1,5 @@
 use Rattle.flow.specs.Walk.{edge_num}
-use borrow.Author.Tests.{eq-eqb, ne_eqb, not-true, not-false}
-use borrow.Author.Rules.{rules}
+use borrow.Author.Tests.{eq-eqb, ne_eqb}
 use Rattle.flow.proofs.carry.Goals as goal
 
 pub returns-then-way-eq-CALL : goal.returns-then-way-eq-CALL

@@ -1,4 +1,3 @@
-use borrow.Author.Rules.{rules}
 use Rattle.flow.proofs.deny.Goals as goal
 
 pub returns : goal.returns

@@ -1,7 +1,6 @@
 use Rattle.flow.specs.Walk.{start_past}
 use mathlib.Core.Path.{sym, ◌∙◌}
 use borrow.Author.Tests.{eq-eqb, ne_eqb}
-use borrow.Author.Rules.{rules}
 use Rattle.flow.proofs.first_passing.Goals.{then-entry-eq-MARKED+else-has, else-entry-eq-MARKED}
 use Rattle.flow.proofs.first_passing.Goals as goal
 
@@ -13,6 +12,6 @@ pub returns : goal.returns
 unfolding start_past
 returns c =
     elim c.if-entry-eq-MARKED.branch [
-      then-entry-eq-MARKED+else-has w ↦ rw (eq-eqb _ 1 w.if-entry-eq-MARKED.true, sym w.has.ensures ∙ w.if-has.false) c.start.ensures
+      | then-entry-eq-MARKED+else-has w ↦ rw (eq-eqb _ 1 w.if-entry-eq-MARKED.true, sym w.has.ensures ∙ w.if-has.false) c.start.ensures
       | else-entry-eq-MARKED w ↦ rw (ne_eqb _ 1 w.if-entry-eq-MARKED.false) c.start.ensures
     ]

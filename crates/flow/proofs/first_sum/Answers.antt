@@ -1,6 +1,5 @@
 use Rattle.flow.specs.Walk.{start_ins}
 use borrow.Author.Tests.{eq-eqb, ne_eqb}
-use borrow.Author.Rules.{rules}
 use Rattle.flow.proofs.first_sum.Goals as goal
 
 pub returns-then-entry-eq-MARKED : goal.returns-then-entry-eq-MARKED

@@ -1,5 +1,4 @@
 use Rattle.flow.specs.Walk.{merge}
-use borrow.Author.Rules.{rules}
 use Rattle.flow.proofs.merge.Goals as goal
 
 pub returns-then-sure : goal.returns-then-sure

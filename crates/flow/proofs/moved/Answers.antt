@@ -1,8 +1,7 @@
 use Rattle.flow.specs.Walk.{trans_num}
-use borrow.Author.Tests.{eq-eqb, ne_eqb, not-true, not-false}
+use borrow.Author.Tests.{eq-eqb, ne_eqb}
 use mathlib.Core.Path.{sym, ◌∙◌}
 use Rattle.sets.specs.Sets.Code.{empty_code}
-use borrow.Author.Rules.{rules}
 use Rattle.flow.proofs.moved.Goals as goal
 
 pub returns-then-kind-ne-KIND_CHECK : goal.returns-then-kind-ne-KIND_CHECK

@@ -1,8 +1,6 @@
 use Rattle.flow.specs.Walk.{past_num}
-use borrow.Author.Tests.{eq-eqb, ne_eqb, not-true, not-false}
 use mathlib.Core.Path.{sym, ◌∙◌}
 use Rattle.sets.specs.Sets.Code.{empty_code}
-use borrow.Author.Rules.{rules}
 use Rattle.flow.proofs.passed.Goals as goal
 
 pub returns-then-not-sure : goal.returns-then-not-sure

@@ -1,7 +1,6 @@
 use Rattle.flow.specs.Walk.{start}
 use mathlib.Core.Path.{sym}
 use Rattle.sets.specs.Sets.Code.{empty_code}
-use borrow.Author.Rules.{rules}
 use Rattle.flow.proofs.start.Goals as goal
 
 pub returns-then-sure : goal.returns-then-sure

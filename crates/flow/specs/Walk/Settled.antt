@@ -1,23 +1,21 @@
 -- When every edge is quiet the sums are in(n) and what passes each check, and what the edges carry is the solution asked for.
-use Prim.Native.Nat.{ℕ, ◌<◌, ◌^◌}
+use Prim.Native.Nat.{ℕ, ◌<◌}
 use Rattle.std.specs.Prelude.{◌≡◌, List, Bool, false, cond, ◌&&◌, ◌||◌, ◌↔◌, ltb}
 use Rattle.std.proofs.Math.Path.{refl, sym}
-use Rattle.std.proofs.Common.{◌∙◌, ap, ⊎_elim, arith, eqb-true}
+use Rattle.std.proofs.Common.{◌∙◌, ap, ⊎_elim, eqb-true}
 use Rattle.std.proofs.Math.Bool.{true}
 use Rattle.std.proofs.Math.Dec.{eqb}
 use Rattle.std.proofs.Math.ListN.{get_or}
-use Rattle.std.proofs.lemmas.Bool.{eqb-false}
-use Rattle.truth.specs.Truth.Bools.{by_split, clash, same_bool, both, left, right, either}
+use Rattle.truth.specs.Truth.Bools.{clash, same_bool, both, right, either}
 use Rattle.sets.specs.Sets.{has}
-use Rattle.sets.specs.Sets.Members.{has_common}
-use Rattle.graph.specs.Graph.{out_rule, Graph, is_check, check, entry, grants, from, to, Acceptable, System, may, sure, Outs, Arrival, mark, edge, arriving, in_set, past_set, out_set, Within, held}
+use Rattle.graph.specs.Graph.{out_rule, Graph, is_check, check, entry, from, System, may, sure, Arrival, arriving, in_set, past_set, out_set, Within, held}
 use Rattle.graph.specs.Graph.Arrivals.{Arrives, by_mark, by_edge, arriving_mark, arriving_edge}
-use Rattle.graph.specs.Graph.Edges.{in_may, in_sure, past_may, past_sure, PastSure}
+use Rattle.graph.specs.Graph.Edges.{in_may, in_sure, past_may, past_sure}
 use Rattle.graph.specs.Graph.Rules.{from_low, check_low}
 use Rattle.graph.specs.Graph.Rule.{out_by_rule, out_rule_mono}
 use Rattle.graph.specs.Graph.Rounds.{LeastClosed, GreatestBacked}
 use Rattle.graph.specs.Graph.Solutions.{sure_mono}
-use Rattle.flow.specs.Walk.{past_num, judged_num, carried, from_of, to_of, counts, Toward, Closed, Setting, Good, Quiet}
+use Rattle.flow.specs.Walk.{past_num, judged_num, carried, to_of, Setting, Good, Quiet}
 use Rattle.flow.specs.Walk.Sums.{has_carried, carried_toward, has_past_sure}
 
 -- the out sets l are what the edges carry by the sums s and q, and no edge has anything more to tell

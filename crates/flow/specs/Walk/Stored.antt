@@ -1,15 +1,15 @@
 -- What both walks leave is the content that the slices are to hold.
-use Rattle.std.specs.Prelude.{ℕ, ◌≤◌, ◌<◌, ◌^◌, ◌≡◌, refl, List, Bool, not, ◌&&◌, eqb, ltb, length, get_or, min}
+use Rattle.std.specs.Prelude.{ℕ, ◌<◌, ◌^◌, ◌≡◌, List, Bool, not, ◌&&◌, eqb, length, get_or, min}
 use Rattle.std.proofs.Common.{sym, ◌∙◌, ap, ap₂, arith, lt-ltb}
 use Rattle.std.proofs.Math.Bool.{true, false, cond}
-use Rattle.sets.specs.Sets.{has, all, without}
+use Rattle.sets.specs.Sets.{has, all}
 use Rattle.sets.specs.Sets.Members.{has_all, has_without, below_members}
 use Rattle.sets.specs.Sets.Order.{all_lt, without_lt}
-use Rattle.graph.specs.Graph.{call_rule, Graph, privileged, grants, Acceptable, System, may, sure, Outs, in_set, call_set, denied_set, granted_set, Slices, held, Stored, Content}
+use Rattle.graph.specs.Graph.{call_rule, Graph, Acceptable, System, may, sure, call_set, held, Stored, Content}
 use Rattle.graph.specs.Graph.Rule.{call_by_rule}
 use Rattle.graph.specs.Graph.Rounds.{least_closed, greatest_backed}
 use Rattle.graph.specs.Graph.Code.{denied_code, granted_code}
-use Rattle.flow.specs.Walk.{call_num, called_by, carried, Good, NodesStored}
+use Rattle.flow.specs.Walk.{call_num, called_by, carried, NodesStored}
 use Rattle.flow.specs.Walk.Settled.{Settled, may_settled, may_ins, sure_settled, sure_ins}
 use Rattle.flow.specs.Walk.Sums.{has_called}
 use Rattle.flow.specs.Walk.Taken.{carried_lt}

@@ -4,21 +4,20 @@ use Rattle.std.specs.Prelude.{◌≡◌, refl, List, Bool, false, cond, ◌&&◌
 use Rattle.std.proofs.Math.Path.{sym}
 use Rattle.std.proofs.Common.{◌∙◌, ap, ap₂, arith, get_or-set_same, get_or-set_other}
 use Rattle.std.proofs.Math.Bool.{true}
-use Rattle.std.proofs.Math.Logic.{dite, ⊎_elim}
+use Rattle.std.proofs.Math.Logic.{⊎_elim}
 use Rattle.std.proofs.Math.Decide.{ℕ_discrete}
 use Rattle.std.proofs.Math.ListN.{set}
-use borrow.Author.Tests.{eqb-true, eq-eqb, ne_eqb, eqb-false, lt-ltb, ltb-true}
-use Rattle.truth.specs.Truth.Bools.{by_split, clash, both, left, right, either, or_left, or_right}
-use Rattle.sets.specs.Sets.{has, empty, common, add}
+use borrow.Author.Tests.{eqb-true, eq-eqb, ne_eqb, eqb-false, lt-ltb}
+use Rattle.truth.specs.Truth.Bools.{by_split, both, left, right, either, or_left, or_right}
+use Rattle.sets.specs.Sets.{has, empty, common}
 use Rattle.sets.specs.Sets.Members.{has_common, has_empty, has_add, below_members, has_join}
-use Rattle.sets.specs.Sets.Order.{empty_lt, common_lt, add_lt}
-use Rattle.graph.specs.Graph.{call_rule, trans_rule, out_rule, Graph, is_check, check, privileged, entry, grants, from, to, is_call, Acceptable, System, may, sure, Outs, Arrival, mark, edge, arriving, in_set, past_set, out_set, held}
+use Rattle.graph.specs.Graph.{call_rule, trans_rule, out_rule, Graph, is_check, check, privileged, grants, from, to, is_call, Acceptable, System, may, sure, Outs, mark, edge, arriving, in_set, past_set, held}
 use Rattle.graph.specs.Graph.Arrivals.{Arrives, by_mark, by_edge, arriving_mark, arriving_edge}
 use Rattle.graph.specs.Graph.Edges.{in_may, in_sure, past_may, past_sure}
 use Rattle.graph.specs.Graph.Rules.{from_low, check_low}
 use Rattle.graph.specs.Graph.Rule.{out_by_rule, out_rule_mono}
 use Rattle.graph.specs.Graph.Code.{privileged_code}
-use Rattle.flow.specs.Walk.{start, merge, call_num, past_num, trans_num, edge_num, judged_num, start_ins, start_past, past_by, called_by, moved_by, carried, from_of, to_of, counts, into, Begun, Toward, Closed, PastBelow, Setting, Good}
+use Rattle.flow.specs.Walk.{start, merge, call_num, past_num, trans_num, edge_num, judged_num, start_ins, start_past, past_by, called_by, moved_by, carried, to_of, counts, into, Begun, Toward, Closed, PastBelow, Setting, Good}
 use Rattle.flow.specs.Walk.Order.{toward_refl, toward_trans, merge_left, merge_both, merge_lt, start_lt, start_first}
 
 -- the trans set of a node that is no check

@@ -1,8 +1,6 @@
-use Rattle.frames.specs.Frames.{Frame}
-use Rattle.truth.specs.Truth.Tests.{Passed, passed_none, passed_more, passed_stop, passed_end}
+use Rattle.truth.specs.Truth.Tests.{passed_none, passed_more, passed_stop, passed_end}
 use borrow.Author.Rules.{rules}
 use native.Mathlib.Omega.{arith}
-use Prim.Native.Nat.{◌-◌}
 use Rattle.frames.proofs.first_bad_frame.Goals as goal
 
 pub loop-i-init : goal.loop-i-init

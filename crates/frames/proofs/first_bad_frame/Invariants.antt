@@ -1,7 +1,5 @@
 use Rattle.frames.specs.Frames.{Frame}
-use Rattle.truth.specs.Truth.Tests.{Passed, passed_none, passed_more, passed_stop, passed_end}
-use borrow.Author.Rules.{rules}
-use native.Mathlib.Omega.{arith}
+use Rattle.truth.specs.Truth.Tests.{Passed}
 use Prim.Native.Nat.{◌-◌}
 use Rattle.frames.proofs.first_bad_frame.Given as goal
 

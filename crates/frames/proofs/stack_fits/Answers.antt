@@ -1,7 +1,6 @@
 use Rattle.truth.specs.Truth.Tests.{first_all, first_some}
 use Rattle.truth.specs.Truth.{holds, fails}
 use native.Mathlib.Omega.{arith}
-use borrow.Author.Rules.{rules}
 use Rattle.frames.proofs.stack_fits.Goals as goal
 
 pub returns-then-stack-gt-MOST_FRAMES : goal.returns-then-stack-gt-MOST_FRAMES

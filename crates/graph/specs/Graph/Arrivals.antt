@@ -1,8 +1,8 @@
 -- The two folds over what arrives at a node say what they seem to say.
-use Rattle.std.specs.Prelude.{ℕ, ◌<◌, ◌≡◌, refl, ◌⊎◌, Bool, true, ◌&&◌, ◌||◌}
+use Rattle.std.specs.Prelude.{ℕ, ◌<◌, ◌≡◌, refl, ◌⊎◌, Bool, true, ◌&&◌}
 use Rattle.std.proofs.Common.{inl, inr, eqb-true, eq-eqb}
 use Rattle.std.proofs.Math.Dec.{eqb}
-use Rattle.truth.specs.Truth.{◌⇒◌, some, every}
+use Rattle.truth.specs.Truth.{◌⇒◌, some}
 use Rattle.truth.specs.Truth.Bools.{both, left, right, either, or_left, or_right, given, when}
 use Rattle.truth.specs.Truth.Folds.{some_intro, some_elim, every_intro, every_elim}
 use Rattle.graph.specs.Graph.{Graph, entry, grants, to, Outs, Arrival, mark, edge, arriving, some_arrival, every_arrival}

@@ -1,6 +1,6 @@
 -- What each set of the equations holds at least and at most, for both systems: the laws that the crates above cite.
-use Rattle.std.specs.Prelude.{ℕ, ◌<◌, ◌≡◌, refl, ◌↔◌, ◌⊎◌, false, cond, ◌&&◌, ◌||◌, eqb}
-use Rattle.std.proofs.Common.{sym, ◌∙◌, inl, inr, arith, eqb-true, eq-eqb, ne_eqb}
+use Rattle.std.specs.Prelude.{ℕ, ◌≡◌, ◌↔◌, ◌⊎◌, false, ◌&&◌, ◌||◌, eqb}
+use Rattle.std.proofs.Common.{inl, inr, arith, eqb-true, eq-eqb, ne_eqb}
 use Rattle.std.proofs.Math.Bool.{Bool, true}
 use Rattle.std.proofs.lemmas.Bool.{eqb-false}
 use Rattle.truth.specs.Truth.{◌⇒◌}

@@ -1,9 +1,9 @@
 -- The worked gateway: its graph, and the rows that every content of its slices gives.
-use Rattle.std.specs.Prelude.{ℕ, ◌≡◌, refl, [], ◌∷◌}
+use Rattle.std.specs.Prelude.{◌≡◌, refl, [], ◌∷◌}
 use Rattle.truth.specs.Truth.{first, some, every}
 use Rattle.sets.specs.Sets.Code.{has_code}
 use Rattle.sets.specs.Sets.Pack.{pack}
-use Rattle.graph.specs.Graph.{out_rule, trans_rule, call_rule, privileged_by, Graph, graph_of, size_of, kind, is_check, check, privileged, entry, grants, from, to, way, is_call, Acceptable, arriving, some_arrival, every_arrival, in_set, call_set, past_set, out_set, denied_set, granted_set, Slices, Content}
+use Rattle.graph.specs.Graph.{out_rule, trans_rule, call_rule, privileged_by, Graph, graph_of, size_of, Acceptable, arriving, some_arrival, every_arrival, in_set, call_set, past_set, out_set, denied_set, granted_set, Slices, Content}
 use Rattle.graph.specs.Graph.Rounds.{sheet, written, rounds, may_rounds}
 use Rattle.graph.specs.Graph.Tables.{Computed, computed_accepted, computed_content, computed_one}
 use Rattle.graph.specs.Judge.{shape_test, node_test, edge_test, no_entry, judge}

@@ -1,12 +1,12 @@
 -- Errors that look right and the two departures from the print, each as a small graph whose sets would come out
 -- otherwise under the error. K is 2: permissions 0 and 1 are the digits 1 and 2, so a set of both is 3.
-use Rattle.std.specs.Prelude.{ℕ, zero, suc, ◌≡◌, refl, List, [], ◌∷◌, Bool, true, ◌&&◌}
+use Rattle.std.specs.Prelude.{ℕ, zero, suc, refl, List, [], ◌∷◌, true}
 use Rattle.std.proofs.Common.{arith, sym}
 use Rattle.std.proofs.Math.Bool.{or-true}
 use Rattle.truth.specs.Truth.{first, some, every}
 use Rattle.sets.specs.Sets.Code.{has_code}
 use Rattle.sets.specs.Sets.Pack.{pack}
-use Rattle.graph.specs.Graph.{out_rule, trans_rule, call_rule, privileged_by, Graph, graph_of, size_of, kind, is_check, check, privileged, entry, grants, from, to, way, is_call, arriving, some_arrival, every_arrival, in_set, call_set, past_set, out_set, MaySolution, denied_set, granted_set, Slices}
+use Rattle.graph.specs.Graph.{out_rule, trans_rule, call_rule, privileged_by, Graph, graph_of, size_of, grants, arriving, some_arrival, every_arrival, in_set, call_set, past_set, out_set, MaySolution, denied_set, granted_set, Slices}
 use Rattle.graph.specs.Graph.Rounds.{sheet, written, rounds}
 use Rattle.graph.specs.Graph.Tables.{Computed}
 use Rattle.graph.specs.Judge.{shape_test, node_test, edge_test, no_entry, judge}

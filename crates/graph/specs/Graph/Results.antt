@@ -1,12 +1,11 @@
 -- What the solver stores for an accepted graph exists, and is one.
-use Rattle.std.specs.Prelude.{ℕ, zero, suc, ◌<◌, ◌^◌, ◌≡◌, refl, List, Bool, true, false, length, get_or}
+use Rattle.std.specs.Prelude.{ℕ, zero, suc, ◌<◌, ◌≡◌, List, Bool, true, false, get_or}
 use Rattle.std.proofs.Common.{sym, ◌∙◌, ap, ext_get_or}
-use Rattle.sets.specs.Sets.{has}
 use Rattle.sets.specs.Sets.Members.{same_below, below_members}
 use Rattle.sets.specs.Sets.Pack.{pack, pack_lt}
 use Rattle.graph.specs.Graph.{Graph, Acceptable, may, sure, Outs, out_set, GreatestSure, denied_set, granted_set, Slices, held, Stored, Content}
 use Rattle.graph.specs.Graph.Solutions.{may_one, sure_one}
-use Rattle.graph.specs.Graph.Rounds.{sheet, length_sheet, get_d_sheet, written, held_written, rounds, may_rounds, sure_rounds, LeastClosed, GreatestBacked, least_closed, greatest_backed, may_rests, sure_rests, may_at_rest, sure_at_rest}
+use Rattle.graph.specs.Graph.Rounds.{length_sheet, get_d_sheet, written, held_written, rounds, may_rounds, sure_rounds, LeastClosed, GreatestBacked, least_closed, greatest_backed, may_rests, sure_rests, may_at_rest, sure_at_rest}
 
 -- ---- one content
 

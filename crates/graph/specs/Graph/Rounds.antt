@@ -1,6 +1,6 @@
 -- Both solutions exist: by rounds, each of which computes every edge's out set from the round before, MAY from empty sets and SURE from
 -- full ones. So the least solution is the least of all that hold what their equations give (Knaster and Tarski), and likewise SURE.
-use Prim.Native.Nat.{ℕ, zero, suc, ◌+◌, ◌*◌, ◌<◌, ◌≤◌, zero-le}
+use Prim.Native.Nat.{ℕ, zero, suc, ◌*◌, ◌<◌, ◌≤◌}
 use Rattle.std.specs.Prelude.{◌≡◌, ◌↔◌, Bool, ◌&&◌, length, get_or}
 use Rattle.std.proofs.Math.Path.{refl, sym, ap}
 use Rattle.std.proofs.Common.{◌∙◌, ap₂, not-suc-le-zero, le_of_suc-le-suc, arith}
@@ -9,9 +9,9 @@ use Rattle.std.proofs.Math.Bool.{true, false, not, cond}
 use Rattle.std.proofs.lemmas.Bool.{not-true}
 use Rattle.truth.specs.Truth.Bools.{clash, same_bool, both, left, right, turned, unturned}
 use Rattle.sets.specs.Sets.{has}
-use Rattle.sets.specs.Sets.Pack.{pack, pack_lt, has_pack, pack_same}
+use Rattle.sets.specs.Sets.Pack.{pack, has_pack, pack_same}
 use Rattle.graph.specs.Graph.{Graph, grants, to, Acceptable, may, sure, Outs, out_set, Within, Same, LeastMay, GreatestSure, held}
-use Rattle.graph.specs.Graph.Solutions.{may_mono, sure_mono, Granted, may_granted}
+use Rattle.graph.specs.Graph.Solutions.{may_mono, sure_mono, may_granted}
 use Rattle.graph.specs.Graph.Growth.{rests}
 
 -- ---- sets written down

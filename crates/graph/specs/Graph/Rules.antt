@@ -1,5 +1,5 @@
 -- What the rules say of an accepted graph, by its nodes and edges.
-use Rattle.std.specs.Prelude.{ℕ, ◌≤◌, ◌<◌, ◌≡◌, ◌⊎◌, true, false, eqb, get_or}
+use Rattle.std.specs.Prelude.{ℕ, ◌<◌, ◌≡◌, ◌⊎◌, true, eqb, get_or}
 use Rattle.std.proofs.Common.{ap, inl, inr, ⊎_elim, arith, eqb-true}
 use Rattle.std.proofs.lemmas.Bool.{eqb-false}
 use Rattle.truth.specs.Truth.Bools.{by_split}

@@ -1,8 +1,8 @@
 -- Both systems grow with their sets; each has one solution of the kind asked for; what lies within the grants stays there.
-use Rattle.std.specs.Prelude.{ℕ, ◌<◌, ◌≡◌, refl, Bool, true, false}
+use Rattle.std.specs.Prelude.{ℕ, ◌<◌, ◌≡◌, true}
 use Rattle.std.proofs.Common.{sym, ◌∙◌, ⊎_elim}
 use Rattle.truth.specs.Truth.Bools.{by_split, same_bool}
-use Rattle.graph.specs.Graph.{Graph, is_check, check, privileged, grants, from, to, Acceptable, System, may, sure, Outs, Arrival, mark, edge, arriving, in_set, past_set, out_set, Within, Same, LeastMay, GreatestSure}
+use Rattle.graph.specs.Graph.{Graph, is_check, check, privileged, grants, from, to, Acceptable, System, may, sure, Outs, Arrival, arriving, in_set, past_set, out_set, Within, Same, LeastMay, GreatestSure}
 use Rattle.graph.specs.Graph.Rules.{check_low, from_low, ways_of, transfer_same}
 use Rattle.graph.specs.Graph.Arrivals.{Arrives, by_mark, by_edge, arriving_mark, arriving_edge}
 use Rattle.graph.specs.Graph.Edges.{in_may, in_sure, past_may, past_sure, call_edge, transfer_plain, transfer_privileged, transfer_past}

@@ -4,7 +4,7 @@ use Rattle.std.proofs.Common.{sym, ◌∙◌, ap}
 use Rattle.graph.specs.Graph.{Graph, Acceptable, denied_set, granted_set, Slices, held, Content}
 use Rattle.graph.specs.Graph.Rounds.{written, may_rounds, sure_rounds}
 use Rattle.graph.specs.Graph.Results.{slices_of, content_one, content_by_rounds}
-use Rattle.graph.specs.Judge.{Judges, judge}
+use Rattle.graph.specs.Judge.{judge}
 use Rattle.graph.specs.Judge.Laws.{judge_judges, accepted_is}
 use Rattle.graph.specs.declared.Judged.TheVariants.{Accepted}
 

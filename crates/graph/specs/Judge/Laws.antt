@@ -1,15 +1,15 @@
 -- The check's promise by cases and by computation are one, and give one answer.
-use Rattle.std.specs.Prelude.{ℕ, ◌≤◌, ◌<◌, ◌^◌, Bool, true, false, cond, not, ◌&&◌, ◌||◌, ◌≡◌, refl, ◌⊎◌, leb, ltb, eqb, length, get_or}
+use Rattle.std.specs.Prelude.{ℕ, ◌≤◌, ◌<◌, Bool, true, false, cond, ◌&&◌, ◌||◌, ◌≡◌, refl, ◌⊎◌, ltb, eqb, length, get_or}
 use Rattle.std.proofs.Math.Path.{sym, ap}
-use Rattle.std.proofs.Common.{◌∙◌, inl, inr, arith}
+use Rattle.std.proofs.Common.{◌∙◌, arith}
 use borrow.Author.Tests.{lt-ltb, le-ltb, eqb-true, eqb-false}
 use Rattle.truth.specs.Truth.{Says, holds, fails, All, First, first}
 use Rattle.truth.specs.Truth.Tests.{says_same, true_says, false_says, le?, lt?, eq?, and?, or?, if?, not?, first?, first_all, first_one, all_first, first_found}
 use Rattle.truth.specs.Truth.Bools.{by_split}
 use Rattle.sets.specs.Sets.Members.{below_members}
-use Rattle.graph.specs.Graph.{Graph, PerNode, PerEdge, map_node, map_edge, EachNode, EachEdge, every_node, every_edge, Ranges, Shape, NodeRule, EdgeRule, EndsRule, NodeObeys, EdgeObeys, NoEntry, Acceptable}
+use Rattle.graph.specs.Graph.{Graph, PerNode, PerEdge, map_node, map_edge, EachNode, EachEdge, every_node, every_edge, Ranges, Shape, EndsRule, NodeObeys, EdgeObeys, NoEntry, Acceptable}
 use Rattle.graph.specs.declared.Size.{Size}
-use Rattle.graph.specs.Refusals.{Numbered, ◌at◌, numbered}
+use Rattle.graph.specs.Refusals.{Numbered, numbered}
 use Rattle.graph.specs.Refusals.Laws.{refusal, refusal_numbered}
 use Rattle.graph.specs.Judge.{Refuses, shape, node, edge, entry, Judges, accepted, refused, range_test, shape_test, node_test, edge_test, no_entry, judge}
 use Rattle.graph.specs.declared.Refusal.{Refusal}

@@ -1,5 +1,5 @@
 -- No two refusals share number and place: there is a way back from them.
-use Rattle.std.specs.Prelude.{ℕ, ◌≡◌, refl, cond, eqb}
+use Rattle.std.specs.Prelude.{◌≡◌, refl, cond, eqb}
 use Rattle.std.proofs.Common.{sym, ◌∙◌}
 use Rattle.graph.specs.Refusals.{Numbered, numbered}
 use Rattle.graph.specs.declared.Refusal.{Refusal}

@@ -3,7 +3,6 @@
 use Rattle.graph.specs.Judge.Laws.{edge_given, accepted_given, entry_given}
 use Rattle.graph.specs.Judge.{shape, node, refused}
 use Rattle.truth.specs.Truth.Tests.{says_true, says_false}
-use borrow.Author.Tests.{not-true, not-false}
 use borrow.Author.Rules.{rules}
 use Rattle.judge.proofs.check.Goals as goal
 

@@ -1,7 +1,6 @@
 use Rattle.truth.specs.Truth.Tests.{says_same}
 use Rattle.truth.specs.Truth.{fails}
 use native.Mathlib.Omega.{arith}
-use borrow.Author.Rules.{rules}
 use Rattle.judge.proofs.edge_obeys.Goals as goal
 
 pub overflow_cast-from : goal.overflow_cast-from

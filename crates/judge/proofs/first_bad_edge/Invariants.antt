@@ -1,7 +1,5 @@
 use Rattle.graph.specs.Graph.{edges_of, EdgeAt}
-use Rattle.truth.specs.Truth.Tests.{says_true, says_false, Passed, passed_none, passed_more, passed_stop, passed_end}
-use borrow.Author.Tests.{not-true, not-false}
-use borrow.Author.Rules.{rules}
+use Rattle.truth.specs.Truth.Tests.{Passed}
 use Prim.Native.Nat.{◌-◌}
 use Rattle.judge.proofs.first_bad_edge.Given as goal
 

@@ -1,6 +1,5 @@
 use Rattle.graph.specs.Graph.{NoEntry}
-use Rattle.truth.specs.Truth.Tests.{Passed, passed_none, passed_more, passed_stop, passed_end}
-use borrow.Author.Rules.{rules}
+use Rattle.truth.specs.Truth.Tests.{Passed}
 use Prim.Native.Nat.{◌-◌}
 use Rattle.judge.proofs.first_entry.Given as goal
 

@@ -1,6 +1,5 @@
 use mathlib.Core.Path.{sym, ◌∙◌}
 use Rattle.lex.specs.Lex.Fields.{last_of}
-use borrow.Author.Rules.{rules}
 use Rattle.lex.proofs.before_end.Goals as goal
 
 pub returns-in-More : goal.returns-in-More

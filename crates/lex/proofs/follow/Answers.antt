@@ -1,6 +1,5 @@
 use mathlib.Core.Path.{sym, ◌∙◌}
 use Rattle.lex.specs.Lex.Fields.{followed_end, followed_comma, followed_row, followed_bare, followed_else}
-use borrow.Author.Rules.{rules}
 use Rattle.lex.proofs.follow.Goals as goal
 
 pub returns-then-s-a : goal.returns-then-s-a

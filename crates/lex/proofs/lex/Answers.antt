@@ -2,7 +2,6 @@ use mathlib.Core.Path.{sym, ◌∙◌}
 use native.Mathlib.Omega.{arith}
 use Rattle.scan.specs.Scan.Runs.{in_range}
 use Rattle.lex.specs.Lex.Fields.{field_quoted, field_plain}
-use borrow.Author.Rules.{rules}
 use Rattle.lex.proofs.lex.Goals as goal
 
 pub overflow_add-at : goal.overflow_add-at

@@ -1,6 +1,5 @@
 use mathlib.Core.Path.{sym, ◌∙◌}
 use Rattle.lex.specs.Lex.Fields.{quoted_yes, quoted_no}
-use borrow.Author.Rules.{rules}
 use Rattle.lex.proofs.lex_quoted.Goals as goal
 
 pub returns-then-e-s : goal.returns-then-e-s

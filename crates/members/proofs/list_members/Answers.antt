@@ -1,9 +1,7 @@
-use Prim.Native.Nat.{◌-◌}
 use mathlib.Core.Path.{◌∙◌}
 use native.Mathlib.Omega.{arith}
-use lib.ListN.{length}
 use Rattle.writer.specs.Writer.Places.{puts_long}
-use Rattle.members.specs.Members.Laws.{Halving, halving_start, halving_low, halving_more, halving_end}
+use Rattle.members.specs.Members.Laws.{halving_start, halving_low, halving_more, halving_end}
 use borrow.Author.Rules.{rules}
 use Rattle.members.proofs.list_members.Goals as goal
 

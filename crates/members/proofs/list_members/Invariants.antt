@@ -1,11 +1,6 @@
 -- After p turns the members below p are listed, and `rest` has what is left of the set, p places lower. What is left is 0 after 64 turns at the latest.
 use Prim.Native.Nat.{◌-◌}
-use mathlib.Core.Path.{◌∙◌}
-use native.Mathlib.Omega.{arith}
-use lib.ListN.{length}
-use Rattle.writer.specs.Writer.Places.{puts_long}
-use Rattle.members.specs.Members.Laws.{Halving, halving_start, halving_low, halving_more, halving_end}
-use borrow.Author.Rules.{rules}
+use Rattle.members.specs.Members.Laws.{Halving}
 use Rattle.members.proofs.list_members.Given as goal
 
 abbrev pub invariant-loop-rest : goal.invariant-loop-rest

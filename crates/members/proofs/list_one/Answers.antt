@@ -1,9 +1,7 @@
 use mathlib.Core.Path.{sym}
 use native.Mathlib.Omega.{arith}
-use borrow.Author.Tests.{not-true, not-false}
 use Rattle.writer.specs.Writer.Places.{puts_as, puts_none, put_in}
 use Rattle.members.specs.Members.Laws.{noted_not, noted}
-use borrow.Author.Rules.{rules}
 use Rattle.members.proofs.list_one.Goals as goal
 
 pub returns-then-not-member : goal.returns-then-not-member

@@ -7,7 +7,6 @@ use lib.Seq.{take_all}
 use Rattle.members.specs.Members.{after_first}
 use Rattle.writer.specs.Writer.Places.{puts_as, puts_none, puts_then, lent}
 use Rattle.members.specs.Members.Laws.{spaced_none, spaced_by}
-use borrow.Author.Rules.{rules}
 use Rattle.members.proofs.put_list.Goals as goal
 
 pub returns-then-list-eq0 : goal.returns-then-list-eq0

@@ -1,9 +1,6 @@
-use Prim.Native.Nat.{◌-◌}
 use native.Mathlib.Omega.{arith}
-use lib.ListN.{length}
 use Rattle.writer.specs.Writer.Places.{puts_long, lent}
-use Rattle.members.specs.Members.Laws.{Spacing, spacing_start, spacing_more, spacing_end}
-use borrow.Author.Rules.{rules}
+use Rattle.members.specs.Members.Laws.{spacing_start, spacing_more, spacing_end}
 use Rattle.members.proofs.put_rest.Goals as goal
 
 pub loop-i-init : goal.loop-i-init

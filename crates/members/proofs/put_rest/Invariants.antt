@@ -1,10 +1,7 @@
 -- After i turns the first i numbers are put, a space before each.
 use Prim.Native.Nat.{◌-◌}
-use native.Mathlib.Omega.{arith}
 use lib.ListN.{length}
-use Rattle.writer.specs.Writer.Places.{puts_long, lent}
-use Rattle.members.specs.Members.Laws.{Spacing, spacing_start, spacing_more, spacing_end}
-use borrow.Author.Rules.{rules}
+use Rattle.members.specs.Members.Laws.{Spacing}
 use Rattle.members.proofs.put_rest.Given as goal
 
 abbrev pub invariant-loop-i : goal.invariant-loop-i

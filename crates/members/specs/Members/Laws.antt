@@ -6,7 +6,7 @@ use Rattle.truth.specs.Truth.Bools.{by_split}
 use Rattle.truth.specs.Truth.Kit.{take_sets}
 use Rattle.sets.specs.Sets.{has}
 use Rattle.sets.specs.Sets.Members.{has_past, has_zero, has_suc}
-use Rattle.writer.specs.Writer.{decimal, last_place, place_of, Puts}
+use Rattle.writer.specs.Writer.{decimal, last_place, Puts}
 use Rattle.writer.specs.Writer.Places.{place_le, puts_none, puts_long, puts_then, puts_as, puts_count, take_more}
 use Rattle.writer.specs.Writer.Numbers.{short_decimal}
 use Rattle.members.specs.Members.{members_from, after_first, spaced, set_bytes}

@@ -3,7 +3,6 @@ use native.Mathlib.Omega.{arith}
 use Rattle.fields.specs.Fields.Forms.{way}
 use Rattle.records.specs.Records.{edge_row_of}
 use Rattle.records.specs.Records.Rows.{three_told, three_low, edge_none, edge_all}
-use borrow.Author.Rules.{rules}
 use Rattle.records.proofs.read_edge.Goals as goal
 
 pub returns-in_default : goal.returns-in_default

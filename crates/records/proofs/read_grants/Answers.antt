@@ -3,7 +3,6 @@ use Rattle.scan.specs.Scan.{members_of, held_of}
 use Rattle.scan.specs.declared.Listed.{Listed}
 use Rattle.records.specs.Records.{granted_of}
 use Rattle.records.specs.Records.Rows.{granted_by, grants_none, grants_part}
-use borrow.Author.Rules.{rules}
 use Rattle.records.proofs.read_grants.Goals as goal
 
 pub returns-in_default : goal.returns-in_default

@@ -1,10 +1,8 @@
 use mathlib.Core.Path.{sym, ◌∙◌, ap}
-use borrow.Author.Tests.{not-true, not-false}
 use Rattle.truth.specs.Truth.Tests.{says_true, says_false, true_says, false_says}
 use Rattle.graph.specs.Judge.Laws.{range?}
 use Rattle.records.specs.Records.{header_of}
 use Rattle.records.specs.Records.Rows.{three_told, header_none, header_out, header_all}
-use borrow.Author.Rules.{rules}
 use Rattle.records.proofs.read_header.Goals as goal
 
 pub returns-in_default : goal.returns-in_default

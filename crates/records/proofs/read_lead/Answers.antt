@@ -1,7 +1,6 @@
 use mathlib.Core.Path.{sym, ◌∙◌, ap}
 use Rattle.records.specs.Records.{lead_row_of}
 use Rattle.records.specs.Records.Rows.{lead_1, lead_2, lead_3, lead_4, lead_5, lead_all}
-use borrow.Author.Rules.{rules}
 use Rattle.records.proofs.read_lead.Goals as goal
 
 pub returns-in_default : goal.returns-in_default

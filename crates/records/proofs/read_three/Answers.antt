@@ -1,7 +1,6 @@
 use mathlib.Core.Path.{sym, ◌∙◌, ap}
 use Rattle.records.specs.Records.{three_row_of}
 use Rattle.records.specs.Records.Rows.{three_1, three_2, three_3, three_4, three_5, three_6, three_all}
-use borrow.Author.Rules.{rules}
 use Rattle.records.proofs.read_three.Goals as goal
 
 pub returns-in_default : goal.returns-in_default

@@ -1,7 +1,7 @@
 -- How a row follows from its fields.
-use Rattle.std.specs.Prelude.{ℕ, ◌<◌, ◌≤◌, ◌^◌, ◌≡◌, refl, List, Bool, true, false, cond, ltb}
+use Rattle.std.specs.Prelude.{ℕ, ◌<◌, ◌^◌, ◌≡◌, refl, List, Bool, true, false, cond, ltb}
 use Rattle.std.proofs.Math.Path.{ap}
-use Rattle.std.proofs.Common.{sym, ◌∙◌, subst, arith, ltb-true}
+use Rattle.std.proofs.Common.{sym, ◌∙◌, subst, arith}
 use Rattle.truth.specs.Truth.Bools.{by_split}
 use Rattle.scan.specs.Scan.{part_of, Members, members, none, members_of, held_of}
 use Rattle.lex.specs.Lex.{last_at}
@@ -22,21 +22,16 @@ use Rattle.records.specs.declared.Granted.TheVariants as granted
 use Rattle.records.specs.declared.Lead.{Lead}
 use Rattle.records.specs.declared.LeadRow.{LeadRow}
 use Rattle.records.specs.declared.LeadRow.TheVariants as lead
-use Rattle.records.specs.declared.Node.{Node}
-use Rattle.records.specs.declared.NodeRow.{NodeRow}
 use Rattle.records.specs.declared.NodeRow.TheVariants as node
 use Rattle.records.specs.declared.Three.{Three}
 use Rattle.records.specs.declared.ThreeRow.{ThreeRow}
 use Rattle.records.specs.declared.ThreeRow.TheVariants as three
-use Rattle.records.specs.declared.Edge.{Edge}
-use Rattle.records.specs.declared.EdgeRow.{EdgeRow}
-use Rattle.records.specs.declared.EdgeRow.TheVariants as edge
 use Rattle.graph.specs.declared.Size.{Size}
 use Rattle.records.specs.declared.Header.{Header}
 use Rattle.records.specs.declared.Header.TheVariants as header
 use Rattle.fields.specs.Fields.Forms.{Below, number, check, kind, marks, form_below}
 use Rattle.fields.specs.Fields.{form_at, end_at}
-use Rattle.records.specs.Records.{Got, got, no, on_members, grants_by, grants_at, three_at, header_at, lead_at, node_of, node_at, edge_at, kept, granted_of, lead_row_of, node_row_of, three_row_of, edge_row_of, header_of}
+use Rattle.records.specs.Records.{Got, got, no, on_members, grants_by, grants_at, three_at, header_at, lead_at, node_of, node_at, edge_at, granted_of, lead_row_of, node_row_of, three_row_of, header_of}
 
 -- ---- grants
 

@@ -1,7 +1,5 @@
 -- The parts of a row stand one after another: the word, the number, the place, the row's end.
-use mathlib.Core.Path.{refl}
 use Rattle.writer.specs.Writer.Places.{puts_then, lent, lent_after}
-use borrow.Author.Rules.{rules}
 use Rattle.refusals.proofs.put_refusal.Goals as goal
 
 pub returns : goal.returns

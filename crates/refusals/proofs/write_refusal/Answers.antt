@@ -3,7 +3,6 @@ use mathlib.Core.Path.{ap, ◌∙◌}
 use lib.ListN.{length}
 use Rattle.writer.specs.Writer.Places.{puts_as}
 use Rattle.refusals.specs.Writes.Laws.{writes_none, writes_all, refusal_is}
-use borrow.Author.Rules.{rules}
 use Rattle.refusals.proofs.write_refusal.Goals as goal
 
 pub returns-then-out-needed : goal.returns-then-out-needed

@@ -1,7 +1,5 @@
 use Rattle.truth.specs.Truth.Tests.{says_same, says_true, says_false}
 use Rattle.truth.specs.Truth.{fails}
-use borrow.Author.Tests.{not-true, not-false}
-use borrow.Author.Rules.{rules}
 use Rattle.rules.proofs.has_shape.Goals as goal
 
 pub returns-then-not-in_range : goal.returns-then-not-in_range

@@ -1,9 +1,7 @@
 use Rattle.rules.proofs.Laws.{within_says}
 use Rattle.truth.specs.Truth.Tests.{says_same, says_true, says_false}
 use Rattle.truth.specs.Truth.{fails}
-use borrow.Author.Tests.{not-true, not-false}
 use native.Mathlib.Omega.{arith}
-use borrow.Author.Rules.{rules}
 use Rattle.rules.proofs.node_obeys.Goals as goal
 
 pub returns-then-kind-gt-KIND_CHECK : goal.returns-then-kind-gt-KIND_CHECK

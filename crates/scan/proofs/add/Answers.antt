@@ -1,6 +1,5 @@
-use mathlib.Core.Path.{sym, ◌∙◌}
+use mathlib.Core.Path.{sym}
 use Rattle.scan.specs.Scan.Lists.{with_low, with_high}
-use borrow.Author.Rules.{rules}
 use Rattle.scan.proofs.add.Goals as goal
 
 pub returns-then-v-lt-SET_BITS : goal.returns-then-v-lt-SET_BITS

@@ -1,7 +1,6 @@
-use borrow.Author.Rules.{rules}
 use native.Mathlib.Omega.{arith}
 use mathlib.Core.Path.{sym, ◌∙◌}
-use Prim.Native.Nat.{ℕ, ◌-◌, ◌≤◌}
+use Prim.Native.Nat.{ℕ, ◌-◌}
 use native.Mathlib.Nat.{sub-eq-zero_of_le, le_of_lt}
 use lib.ListN.{length, drop, length-drop, drop_of_length-le}
 use lib.Seq.{take_all, take-nil}

@@ -1,7 +1,6 @@
 use mathlib.Core.Path.{sym, ap, ◌∙◌}
 use Rattle.scan.specs.declared.Class.{Class}
 use Rattle.scan.specs.Scan.{belongs}
-use borrow.Author.Rules.{rules}
 use Rattle.scan.proofs.is_of.Goals as goal
 
 pub returns-in-Plain : goal.returns-in-Plain

@@ -1,6 +1,5 @@
-use mathlib.Core.Path.{sym, ◌∙◌}
+use mathlib.Core.Path.{sym}
 use Rattle.scan.specs.Scan.Runs.{plain_above, plain_last}
-use borrow.Author.Rules.{rules}
 use Rattle.scan.proofs.is_plain.Goals as goal
 
 pub returns-then-b-gt44 : goal.returns-then-b-gt44

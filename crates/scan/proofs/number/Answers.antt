@@ -1,6 +1,5 @@
 use mathlib.Core.Path.{sym, ◌∙◌}
 use Rattle.scan.specs.Scan.Numbers.{number_none, number_long, number_longest, number_zero, number_needless, number_digits}
-use borrow.Author.Rules.{rules}
 use Rattle.scan.proofs.number.Goals as goal
 
 pub returns-then-n-eq0 : goal.returns-then-n-eq0

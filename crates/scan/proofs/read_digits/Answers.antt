@@ -1,10 +1,7 @@
-use Prim.Native.Nat.{ℕ, ◌+◌, ◌-◌, ◌*◌, ◌^◌, ◌<◌, suc}
-use mathlib.Core.Path.{◌≡◌, refl, ap, sym, ◌∙◌}
+use mathlib.Core.Path.{refl, sym, ◌∙◌}
 use borrow.Author.Rules.{rules}
 use native.Mathlib.Omega.{arith}
-use lib.ListN.{length, drop}
 use Rattle.scan.specs.Scan.Numbers.{digits_step, digits_low, digits_high, digits_out, ten_small, ten_step}
-use Rattle.scan.specs.Scan.{digits_from}
 use Rattle.scan.proofs.read_digits.Goals as goal
 
 pub loop-i-init : goal.loop-i-init

@@ -1,10 +1,7 @@
 -- What is read so far, v, has fewer than i + 1 digits, and with it the digits to come say the same number.
-use Prim.Native.Nat.{ℕ, ◌+◌, ◌-◌, ◌*◌, ◌^◌, ◌<◌, suc}
-use mathlib.Core.Path.{◌≡◌, refl, ap, sym, ◌∙◌}
-use borrow.Author.Rules.{rules}
-use native.Mathlib.Omega.{arith}
+use Prim.Native.Nat.{◌-◌, ◌^◌, ◌<◌}
+use mathlib.Core.Path.{◌≡◌}
 use lib.ListN.{length, drop}
-use Rattle.scan.specs.Scan.Numbers.{digits_step, digits_low, digits_high, digits_out, ten_small, ten_step}
 use Rattle.scan.specs.Scan.{digits_from}
 use Rattle.scan.proofs.read_digits.Given as goal
 

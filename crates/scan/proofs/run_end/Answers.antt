@@ -1,11 +1,6 @@
-use Prim.Native.Nat.{ℕ, ◌+◌, ◌-◌, suc}
-use mathlib.Core.Path.{◌≡◌, refl, ap, sym, ◌∙◌}
-use borrow.Author.Rules.{rules}
+use mathlib.Core.Path.{sym, ◌∙◌}
 use native.Mathlib.Omega.{arith}
-use lib.ListN.{length, drop}
-use borrow.Author.Tests.{not-true, not-false}
 use Rattle.scan.specs.Scan.Runs.{run_step, run_stop, run_out}
-use Rattle.scan.specs.Scan.{run}
 use Rattle.scan.proofs.run_end.Goals as goal
 
 pub returns-then-not-is_of : goal.returns-then-not-is_of

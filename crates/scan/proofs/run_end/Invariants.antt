@@ -1,10 +1,6 @@
-use Prim.Native.Nat.{ℕ, ◌+◌, ◌-◌, suc}
-use mathlib.Core.Path.{◌≡◌, refl, ap, sym, ◌∙◌}
-use borrow.Author.Rules.{rules}
-use native.Mathlib.Omega.{arith}
+use Prim.Native.Nat.{◌+◌, ◌-◌}
+use mathlib.Core.Path.{◌≡◌}
 use lib.ListN.{length, drop}
-use borrow.Author.Tests.{not-true, not-false}
-use Rattle.scan.specs.Scan.Runs.{run_step, run_stop, run_out}
 use Rattle.scan.specs.Scan.{run}
 use Rattle.scan.proofs.run_end.Given as goal
 

@@ -1,5 +1,5 @@
 -- How a list goes on from one word to the next, and its set as 64 bits.
-use Rattle.std.specs.Prelude.{ℕ, zero, suc, ◌+◌, ◌-◌, ◌*◌, ◌^◌, ◌%◌, ◌≤◌, ◌<◌, ◌≡◌, refl, Bool, true, false, cond, List, [], ◌∷◌, length, get_or, take, drop, eqb, ltb}
+use Rattle.std.specs.Prelude.{ℕ, ◌+◌, ◌-◌, ◌*◌, ◌^◌, ◌%◌, ◌≤◌, ◌<◌, ◌≡◌, refl, cond, List, [], ◌∷◌, length, take, drop, eqb, ltb}
 use Rattle.std.proofs.Common.{ap, sym, ◌∙◌, le_trans, arith, drop-drop, pow_mono}
 use Rattle.std.proofs.Math.Numerals.{add-one}
 use Rattle.std.proofs.Math.ListN.{drop_of_length-le}
@@ -11,11 +11,10 @@ use borrow.Author.Tests.{lt-ltb, le-ltb, ltb-true, ltb-false}
 use Rattle.truth.specs.Truth.Bools.{by_split}
 use Rattle.truth.specs.Truth.Kit.{shl_one}
 use Rattle.scan.specs.declared.Class.TheVariants.{Word}
-use Rattle.scan.specs.declared.Decimal.{Decimal}
 use Rattle.scan.specs.declared.Decimal.TheVariants.{Value, Not}
 use Rattle.scan.specs.declared.Listed.{Listed}
 use Rattle.scan.specs.declared.Listed.TheVariants.{Held, Beyond, NoList}
-use Rattle.scan.specs.Scan.{run, part_of, number_of, onto, words, Members, members, none, ascending, members_of, held_of}
+use Rattle.scan.specs.Scan.{run, part_of, number_of, words, members, none, ascending, members_of, held_of}
 
 -- a set as 64 bits with one member more
 abbrev pub with_member : Listed → ℕ → Listed

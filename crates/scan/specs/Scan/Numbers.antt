@@ -1,13 +1,12 @@
 -- How a number goes on from one digit to the next, and how large it can be.
-use Rattle.std.specs.Prelude.{ℕ, zero, suc, ◌+◌, ◌-◌, ◌*◌, ◌^◌, ◌≤◌, ◌<◌, ◌≡◌, refl, Bool, true, false, List, [], ◌∷◌, length, drop, leb, ltb, eqb}
-use Rattle.std.proofs.Common.{ap, sym, ◌∙◌, add-one, pow-suc, add-zero, zero-add, drop_of_length-le, lit<}
+use Rattle.std.specs.Prelude.{ℕ, zero, suc, ◌+◌, ◌-◌, ◌*◌, ◌^◌, ◌≤◌, ◌<◌, ◌≡◌, List, [], ◌∷◌, length, drop, leb, ltb, eqb}
+use Rattle.std.proofs.Common.{add-one, pow-suc, add-zero, zero-add, drop_of_length-le, lit<}
 use Rattle.std.proofs.Math.Nat.{pow-le-pow_right}
 use native.Mathlib.Omega.{arith}
 use Rattle.std.proofs.Math.ListN.{get_or}
 use Rattle.std.proofs.Math.Seq.{drop-cons}
 use borrow.Author.Tests.{le-leb, lt-leb, lt-ltb, le-ltb, eq-eqb, ne_eqb, leb-true, ltb-false}
 use Rattle.truth.specs.Truth.Bools.{by_split}
-use Rattle.scan.specs.declared.Decimal.{Decimal}
 use Rattle.scan.specs.declared.Decimal.TheVariants.{Value, Not}
 use Rattle.scan.specs.Scan.{digits_from, number_of}
 

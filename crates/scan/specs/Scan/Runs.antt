@@ -1,5 +1,5 @@
 -- How runs go on from one position of a text to the next.
-use Rattle.std.specs.Prelude.{ℕ, zero, suc, ◌+◌, ◌≤◌, ◌<◌, ◌≡◌, refl, true, false, not, List, [], ◌∷◌, length, get_or, drop, eqb}
+use Rattle.std.specs.Prelude.{ℕ, zero, suc, ◌+◌, ◌≤◌, ◌<◌, ◌≡◌, true, false, not, List, [], ◌∷◌, length, get_or, drop, eqb}
 use Rattle.std.proofs.Common.{suc-le-suc, ap, ◌∙◌, add-one, arith, drop_of_length-le, ne_eqb}
 use Rattle.std.proofs.Math.Seq.{drop-cons}
 use Rattle.scan.specs.declared.Class.{Class}

@@ -1,6 +1,6 @@
 -- What the code computes is what the definitions say. For the proofs of this crate's functions, for a crate above that meets
 -- the constant `Set::EMPTY`, whose number a caller's proof sees, and for tables that are computed.
-use Rattle.std.specs.Prelude.{◌≡◌, refl, Bool, ℕ, ◌-◌, ◌*◌, ◌/◌, ◌%◌, ◌^◌, ◌≤◌, ◌<◌, min, eqb}
+use Rattle.std.specs.Prelude.{◌≡◌, refl, ℕ, ◌-◌, ◌*◌, ◌/◌, ◌%◌, ◌^◌, ◌≤◌, ◌<◌, eqb}
 use Rattle.std.proofs.Common.{sym, ap, ◌∙◌, le_of_lt, lt-ltb, le-ltb}
 use Rattle.std.proofs.Math.Nat.{min-eq_left, min-eq_right}
 use Rattle.std.specs.Int.Bits.{bit_and, bit_or, bit_xor}

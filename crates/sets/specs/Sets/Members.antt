@@ -1,7 +1,7 @@
 -- The members of each operation, and that its members are all there is to a set.
 use Rattle.std.specs.Prelude.{◌≡◌, Bool, true, cond, ◌&&◌, ◌||◌, not, ◌↔◌, ℕ, zero, suc, ◌+◌, ◌-◌, ◌*◌, ◌/◌, ◌%◌, ◌^◌, ◌≤◌, ◌<◌, min, ltb}
 use Rattle.std.proofs.Math.Path.{refl, sym, ap}
-use Rattle.std.proofs.Common.{ap₂, ◌∙◌, true≢false, suc-le-suc, one-add, mod-lt, div-one, lt_of_lt_of_le, lt_of_le_of_lt, zero-lt-suc, lt-suc_self, pow-suc, pow_pos, pow_mono, pow-add, shr-shr, lt-ltb, le-ltb, eq-eqb, ne_eqb}
+use Rattle.std.proofs.Common.{◌∙◌, true≢false, suc-le-suc, one-add, mod-lt, div-one, lt_of_lt_of_le, lt_of_le_of_lt, zero-lt-suc, lt-suc_self, pow-suc, pow_pos, pow_mono, pow-add, shr-shr, lt-ltb, le-ltb, eq-eqb, ne_eqb}
 use Rattle.std.proofs.Math.Bool.{false, xor, or-false}
 use Rattle.std.proofs.lemmas.Bool.{false≢true}
 use Rattle.std.proofs.Math.Nat.{div_self, div-eq_of_lt, zero-div, mul-mod_left}

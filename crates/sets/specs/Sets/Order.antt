@@ -1,10 +1,10 @@
 -- Sets by inclusion, their bounds as numbers, and the number of a set as a measure.
-use Rattle.std.specs.Prelude.{◌≡◌, refl, Bool, true, false, ◌&&◌, ◌||◌, ◌↔◌, ℕ, ◌+◌, ◌^◌, ◌≤◌, ◌<◌, min, ltb}
-use Rattle.std.proofs.Common.{sym, ap, ap₂, ◌∙◌, ⊎_elim, lt_of_lt_of_le, lt_of_le_of_lt, arith, pow_pos, pow_mono, lt-ltb, le-ltb, ltb-true, eq-eqb, eqb-true}
+use Rattle.std.specs.Prelude.{◌≡◌, refl, Bool, true, false, ◌&&◌, ◌↔◌, ℕ, ◌^◌, ◌≤◌, ◌<◌, min}
+use Rattle.std.proofs.Common.{sym, ap, ◌∙◌, ⊎_elim, lt_of_lt_of_le, lt_of_le_of_lt, arith, pow_pos, pow_mono, lt-ltb, le-ltb, ltb-true, eq-eqb, eqb-true}
 use Rattle.std.proofs.Math.Bool.{or_assoc}
 use Rattle.std.proofs.Math.Decide.{dec_lt}
 use Rattle.std.proofs.Math.Pow.{pow-lt, ones_lt}
-use Rattle.std.specs.Int.Bits.{bit_and, bit_or, or_add_and}
+use Rattle.std.specs.Int.Bits.{bit_and, or_add_and}
 use Rattle.std.proofs.lemmas.Nat.{and_le_l, and_le_r, or_lt, xor_lt, and_comm}
 use Rattle.std.proofs.lemmas.Bool.{eqb-false}
 use Rattle.truth.specs.Truth.Bools.{by_split, clash, same_bool, both, left, right, either, or_left, or_right}

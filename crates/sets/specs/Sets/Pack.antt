@@ -1,6 +1,6 @@
 -- The set that has just the permissions of a test, as a number: how a set that is described becomes one that is stored.
 use Rattle.std.specs.Prelude.{◌≡◌, refl, Bool, true, false, cond, ℕ, zero, suc, ◌+◌, ◌*◌, ◌/◌, ◌%◌, ◌^◌, ◌<◌, eqb}
-use Rattle.std.proofs.Common.{sym, ap, ap₂, ◌∙◌, not-suc-le-zero, le_of_suc-le-suc, arith, eq-eqb, ne_eqb}
+use Rattle.std.proofs.Common.{ap, ap₂, ◌∙◌, not-suc-le-zero, le_of_suc-le-suc, arith, eq-eqb, ne_eqb}
 use Rattle.sets.specs.Sets.{has}
 use Rattle.sets.specs.Sets.Members.{has_zero, has_suc}
 

@@ -1,5 +1,4 @@
 use borrow.Author.Tests.{lt-ltb, le-ltb}
-use borrow.Author.Rules.{rules}
 use Rattle.shortcuts.proofs.digit.Goals as goal
 
 pub returns-then-b-lt48 : goal.returns-then-b-lt48

@@ -1,5 +1,4 @@
 use Rattle.shortcuts.specs.Shortcuts.Short.{left_alone, ended}
-use borrow.Author.Rules.{rules}
 use Rattle.shortcuts.proofs.end_grants.Goals as goal
 
 pub returns-then-s-at-eq10 : goal.returns-then-s-at-eq10

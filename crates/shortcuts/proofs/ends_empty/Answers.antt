@@ -1,6 +1,5 @@
 use borrow.Author.Tests.{eqb-true}
 use Rattle.shortcuts.specs.Shortcuts.Short.{shows_by, unshown}
-use borrow.Author.Rules.{rules}
 use Rattle.shortcuts.proofs.ends_empty.Goals as goal
 
 pub returns-then-s-at-eq13 : goal.returns-then-s-at-eq13

@@ -3,7 +3,6 @@ use lib.ListN.{length}
 use native.Mathlib.Omega.{arith}
 use Rattle.truth.specs.Truth.{fails}
 use Rattle.truth.specs.Truth.Tests.{says_same, le?}
-use borrow.Author.Rules.{rules}
 use Rattle.shortcuts.proofs.has_room.Goals as goal
 
 pub returns-then-s-count : goal.returns-then-s-count

@@ -4,7 +4,6 @@ use Prim.Native.Nat.{◌+◌, ◌/◌, ◌≤◌, ◌<◌}
 use lib.ListN.{length}
 use mathlib.Core.Path.{sym, ◌∙◌, ap}
 use native.Mathlib.Omega.{arith}
-use borrow.Author.Tests.{not-false}
 use Rattle.truth.specs.Truth.Tests.{says_true}
 use Rattle.fields.specs.declared.Form.TheVariants.{Tag}
 use Rattle.fields.specs.Fields.Forms.{number, form_below}
@@ -12,21 +11,16 @@ use Rattle.fields.specs.Fields.Forms as forms
 use Rattle.shortcuts.specs.Shortcuts.Short.{unknown, quick_known, shows, short_says, letter_form, tag_says, ends_comma, ends_row}
 use Rattle.records.specs.Records.{edge_row_of}
 use Rattle.records.specs.Records.Rows.{three_all, edge_all}
-use borrow.Author.Rules.{rules}
 use Rattle.shortcuts.proofs.quick_edge.Goals.{Else-not-ends_empty, Else-not-has_room}
 use Rattle.shortcuts.proofs.quick_edge.Goals as goal
 
 -- Room for a row of short fields is looked for first, and every place that is read later lies within it.
 module _ (c : Else-not-has_room) where
-
   room : c.args.at + 40 ≤ length c.args.s.now
   room = says_true c.has_room.ensures (c.if-not-has_room.false)
 
 -- what the three numbers are below
 module _ (c : Else-not-ends_empty) where
-
-
-
   from_low : c.short_number-from.result / 8 < 10000
   from_low = form_below number _ _ (short_says c.short_number-from.ensures c.if-from-eq0.false)
 

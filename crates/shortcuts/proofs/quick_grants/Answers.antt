@@ -1,16 +1,13 @@
 use Prim.Native.Nat.{◌+◌, ◌≤◌}
-use borrow.Author.Rules.{rules}
-use Prim.Native.Nat.{◌-◌}
 use native.Mathlib.Omega.{arith}
 use lib.ListN.{length}
 use Rattle.truth.specs.Truth.Tests.{says_true}
-use Rattle.shortcuts.specs.Shortcuts.Short.{unknown, Granting, granting_start, granting_next, granting_end}
+use Rattle.shortcuts.specs.Shortcuts.Short.{unknown, granting_start, granting_next, granting_end}
 use Rattle.shortcuts.proofs.quick_grants.Goals.{In-loop-x}
 use Rattle.shortcuts.proofs.quick_grants.Goals as goal
 
 -- Room is looked for at each turn, and every place that the turn reads lies within it.
 module _ (c : In-loop-x) where
-
   room : c.loop-x.i + 16 ≤ length c.args.s.now
   room = says_true c.has_room.ensures c.loop-x-test.true
 

@@ -1,11 +1,7 @@
 -- The grants read so far are a list that goes on at i; a turn adds a member, and the first byte that is no space ends it.
-use Prim.Native.Nat.{◌+◌, ◌≤◌}
-use borrow.Author.Rules.{rules}
 use Prim.Native.Nat.{◌-◌}
-use native.Mathlib.Omega.{arith}
 use lib.ListN.{length}
-use Rattle.truth.specs.Truth.Tests.{says_true}
-use Rattle.shortcuts.specs.Shortcuts.Short.{unknown, Granting, granting_start, granting_next, granting_end}
+use Rattle.shortcuts.specs.Shortcuts.Short.{Granting}
 use Rattle.shortcuts.proofs.quick_grants.Given as goal
 
 abbrev pub invariant-loop-x : goal.invariant-loop-x

@@ -4,19 +4,16 @@ use Prim.Native.Nat.{◌+◌, ◌≤◌}
 use lib.ListN.{length}
 use mathlib.Core.Path.{sym, ◌∙◌, ap}
 use native.Mathlib.Omega.{arith}
-use borrow.Author.Tests.{not-false}
 use Rattle.truth.specs.Truth.Tests.{says_true}
 use Rattle.fields.specs.declared.Form.TheVariants.{Tag}
 use Rattle.shortcuts.specs.Shortcuts.Short.{unknown, quick_known, short_says, letter_form, tag_says, own_number}
 use Rattle.records.specs.Records.{lead_row_of}
 use Rattle.records.specs.Records.Rows.{lead_all}
-use borrow.Author.Rules.{rules}
 use Rattle.shortcuts.proofs.quick_lead.Goals.{Else-not-has_room}
 use Rattle.shortcuts.proofs.quick_lead.Goals as goal
 
 -- Room for a row of short fields is looked for first, and every place that is read later lies within it.
 module _ (c : Else-not-has_room) where
-
   room : c.args.at + 40 ≤ length c.args.s.now
   room = says_true c.has_room.ensures (c.if-not-has_room.false)
 

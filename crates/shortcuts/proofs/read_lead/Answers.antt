@@ -2,7 +2,6 @@ use mathlib.Core.Path.{◌≡◌}
 use Prim.Native.Nat.{ℕ}
 use native.Mathlib.Omega.{arith}
 use Rattle.shortcuts.specs.Shortcuts.Short.{quick_right}
-use borrow.Author.Rules.{rules}
 use Rattle.shortcuts.proofs.read_lead.Goals as goal
 
 pub returns-in-At : goal.returns-in-At

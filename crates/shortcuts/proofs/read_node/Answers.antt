@@ -2,7 +2,6 @@ use mathlib.Core.Path.{sym, ◌∙◌, ap}
 use native.Mathlib.Omega.{arith}
 use Rattle.records.specs.Records.{node_row_of}
 use Rattle.records.specs.Records.Rows.{lead_told, lead_low, granted_held, granted_beyond, granted_wrong, node_none, node_bare, node_held, node_beyond}
-use borrow.Author.Rules.{rules}
 use Rattle.shortcuts.proofs.read_node.Goals as goal
 
 pub returns-in_default : goal.returns-in_default

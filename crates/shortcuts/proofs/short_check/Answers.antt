@@ -1,5 +1,4 @@
 use Rattle.shortcuts.specs.Shortcuts.Short.{other, check_number, check_empty}
-use borrow.Author.Rules.{rules}
 use Rattle.shortcuts.proofs.short_check.Goals as goal
 
 pub returns-then-kind-eq-CHECK_NODE : goal.returns-then-kind-eq-CHECK_NODE

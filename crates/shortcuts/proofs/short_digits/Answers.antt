@@ -1,6 +1,5 @@
 use native.Mathlib.Omega.{arith}
 use Rattle.shortcuts.specs.Shortcuts.Short.{other, digit_is, digits_1, digits_2, digits_3, digits_4}
-use borrow.Author.Rules.{rules}
 use Rattle.shortcuts.proofs.short_digits.Goals as goal
 
 pub returns-then-a-gt9 : goal.returns-then-a-gt9

@@ -2,7 +2,6 @@ use mathlib.Core.Path.{sym, ◌∙◌}
 use native.Mathlib.Omega.{arith}
 use Rattle.fields.specs.declared.Form.TheVariants.{Kind}
 use Rattle.shortcuts.specs.Shortcuts.Short.{other, letter_short, kind_says_0, kind_says_1, kind_says_2}
-use borrow.Author.Rules.{rules}
 use Rattle.shortcuts.proofs.short_kind.Goals as goal
 
 pub returns-then-b-eq67 : goal.returns-then-b-eq67

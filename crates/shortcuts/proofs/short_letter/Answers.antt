@@ -1,5 +1,4 @@
 use borrow.Author.Tests.{eq-eqb, ne_eqb}
-use borrow.Author.Rules.{rules}
 use Rattle.shortcuts.proofs.short_letter.Goals as goal
 
 pub returns-then-s-at-eq44 : goal.returns-then-s-at-eq44

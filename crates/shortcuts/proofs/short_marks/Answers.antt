@@ -2,7 +2,6 @@ use mathlib.Core.Path.{sym, ◌∙◌}
 use native.Mathlib.Omega.{arith}
 use Rattle.fields.specs.declared.Form.TheVariants.{Marks}
 use Rattle.shortcuts.specs.Shortcuts.Short.{other, letter_short, empty_short, both_marks, marks_says_0, marks_says_1, marks_says_2}
-use borrow.Author.Rules.{rules}
 use Rattle.shortcuts.proofs.short_marks.Goals as goal
 
 pub returns-then-s-at-eq44 : goal.returns-then-s-at-eq44

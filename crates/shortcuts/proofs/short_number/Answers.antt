@@ -1,6 +1,5 @@
 use native.Mathlib.Omega.{arith}
-use Rattle.shortcuts.specs.Shortcuts.Short.{digits_low, other, digits, Short, number_short}
-use borrow.Author.Rules.{rules}
+use Rattle.shortcuts.specs.Shortcuts.Short.{digits_low, Short, number_short}
 use Rattle.shortcuts.proofs.short_number.Goals as goal
 
 pub returns-then-x-eq0 : goal.returns-then-x-eq0

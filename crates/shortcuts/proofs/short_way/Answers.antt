@@ -2,7 +2,6 @@ use mathlib.Core.Path.{sym, ◌∙◌}
 use native.Mathlib.Omega.{arith}
 use Rattle.fields.specs.declared.Form.TheVariants.{Way}
 use Rattle.shortcuts.specs.Shortcuts.Short.{other, letter_short, way_says_0, way_says_1}
-use borrow.Author.Rules.{rules}
 use Rattle.shortcuts.proofs.short_way.Goals as goal
 
 pub returns-then-b-eq67 : goal.returns-then-b-eq67

@@ -20,7 +20,7 @@ use Rattle.lex.specs.declared.Piece.{Piece}
 use Rattle.lex.specs.declared.Piece.TheVariants.{Part, NoPart}
 use Rattle.fields.specs.declared.Form.{Form}
 use Rattle.fields.specs.declared.Form.TheVariants.{Tag, Number, Own, Kind, Check, Marks, Way, Empty}
-use Rattle.fields.specs.declared.Found.TheVariants.{At, Wrong}
+use Rattle.fields.specs.declared.Found.TheVariants.{At}
 use Rattle.records.specs.declared.Granted.{Granted}
 use Rattle.records.specs.declared.Granted.TheVariants as granted
 use Rattle.fields.specs.Fields.{says, found, said_by, form_at, end_at}

@@ -1,18 +1,18 @@
 -- Demand 3: on every stack that a run from an entry node can reach, of any height, quick inspection by the solver's sets answers as full
 -- inspection and looks at no more frames; so what a verdict says of a check holds on each such stack.
-use Rattle.std.specs.Prelude.{ℕ, suc, ◌<◌, ◌≤◌, ◌≡◌, List, [], ◌∷◌, Bool, true, false, not, get_or}
+use Rattle.std.specs.Prelude.{ℕ, ◌<◌, ◌≤◌, ◌≡◌, List, ◌∷◌, Bool, true, false, get_or}
 use Rattle.std.proofs.Math.Path.{refl}
-use Rattle.std.proofs.Common.{sym, ◌∙◌, ap, arith}
+use Rattle.std.proofs.Common.{sym, ◌∙◌, arith}
 use Rattle.std.proofs.lemmas.Bool.{not-true, not-false}
 use Rattle.truth.specs.Truth.Bools.{by_split, clash}
 use Rattle.sets.specs.Sets.{has}
-use Rattle.graph.specs.Graph.{Graph, is_check, check, privileged, grants, to, Acceptable, may, sure, Outs, Arrival, arriving, in_set, call_set, LeastMay, GreatestSure, denied_set, granted_set, verdict_of, Slices, held, Content, Sound}
+use Rattle.graph.specs.Graph.{Graph, is_check, check, privileged, grants, Acceptable, may, sure, Outs, Arrival, arriving, in_set, call_set, LeastMay, GreatestSure, denied_set, granted_set, verdict_of, Slices, held, Content, Sound}
 use Rattle.graph.specs.Graph.Arrivals.{Arrives, by_mark, by_edge, arriving_mark, arriving_edge}
 use Rattle.graph.specs.Graph.Edges.{in_may, call_privileged, call_at_most}
 use Rattle.graph.specs.Graph.Rounds.{least_granted}
 use Rattle.graph.specs.Graph.Rules.{check_low}
 use Rattle.graph.specs.Graph.Code.{denied_code, granted_code, verdict_code}
-use Rattle.stacks.specs.Machine.{rights_of, Inspected, decided, below, bottom, full, quick, Reachable, Agrees}
+use Rattle.stacks.specs.Machine.{rights_of, Inspected, full, quick, Reachable, Agrees}
 use Rattle.stacks.specs.Machine.Inspections.{full_bottom, full_below, full_looks, quick_bottom, quick_denies, quick_grants, quick_below}
 use Rattle.stacks.specs.Machine.Frames.{Framed, bare, frame, passes_call, call_passes, framed}
 

@@ -1,16 +1,15 @@
 -- Every frame of a reachable stack came by something that arrives at its node, between whose SURE and MAY out sets lies what it came
 -- with. Three facts on the out sets are all that this asks.
-use Rattle.std.specs.Prelude.{ℕ, ◌<◌, ◌≡◌, refl, List, [], ◌∷◌, Bool, true, false, ◌&&◌, get_or}
-use Rattle.std.proofs.Common.{sym, ◌∙◌, ap, arith, eqb-true, ne_eqb}
+use Rattle.std.specs.Prelude.{ℕ, ◌<◌, ◌≡◌, List, [], ◌∷◌, Bool, true, false, ◌&&◌}
+use Rattle.std.proofs.Common.{sym, ◌∙◌, ap, arith, ne_eqb}
 use Rattle.std.proofs.Math.Decide.{ℕ_discrete}
-use Rattle.std.proofs.lemmas.Bool.{eqb-false}
-use Rattle.truth.specs.Truth.Bools.{by_split, clash, both, left, right}
-use Rattle.graph.specs.Graph.{Graph, kind, is_check, check, privileged, entry, grants, from, to, is_call, Acceptable, may, sure, Outs, Arrival, mark, edge, arriving, in_set, call_set, past_set, out_set, Leads, Sound}
+use Rattle.truth.specs.Truth.Bools.{by_split, both, left, right}
+use Rattle.graph.specs.Graph.{Graph, kind, is_check, check, privileged, entry, grants, to, Acceptable, may, sure, Outs, Arrival, mark, edge, arriving, in_set, call_set, out_set, Leads, Sound}
 use Rattle.graph.specs.Graph.Arrivals.{Arrives, by_mark, by_edge, arriving_mark, arriving_edge}
 use Rattle.graph.specs.Graph.Edges.{in_may, in_sure, call_privileged, call_at_least, call_at_most, past_may, past_sure, PastSure, call_edge, transfer_plain, transfer_privileged, transfer_past}
-use Rattle.graph.specs.Graph.Rules.{transfer_same, to_low, from_low, check_low}
+use Rattle.graph.specs.Graph.Rules.{transfer_same, to_low, check_low}
 use Rattle.stacks.specs.Machine.{rights_of, Inspected, full, Step, enter, call, pass, back, Reachable, empty, then}
-use Rattle.stacks.specs.Machine.Inspections.{full_bottom, full_lacks, full_stops, full_below, full_grants}
+use Rattle.stacks.specs.Machine.Inspections.{full_bottom, full_stops, full_below, full_grants}
 
 -- what a frame n above the frames r came with: what passes on r, cut to its grants
 pub came : Graph → ℕ → List ℕ → ℕ → Bool

@@ -4,7 +4,7 @@ use Rattle.std.proofs.Common.{sym, ◌∙◌, ap, lit<, arith}
 use Rattle.truth.specs.Truth.Bools.{clash}
 use Rattle.sets.specs.Sets.{has}
 use Rattle.sets.specs.Sets.Code.{has_code}
-use Rattle.graph.specs.Graph.{Graph, is_check, check, verdict_of, Slices, Content}
+use Rattle.graph.specs.Graph.{is_check, check, verdict_of, Slices, Content}
 use Rattle.graph.specs.Graph.Code.{privileged_code, verdict_code}
 use Rattle.graph.specs.Graph.Gateway.{gateway, gateway_slices, gateway_accepted, gateway_content, gateway_one}
 use Rattle.stacks.specs.Machine.{rights_of, Inspected, full, quick, Step, Reachable}

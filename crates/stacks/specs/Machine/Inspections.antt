@@ -1,7 +1,7 @@
 -- The inspections, a frame at a time.
-use Rattle.std.specs.Prelude.{ℕ, suc, ◌≤◌, ◌≡◌, List, [], ◌∷◌, true, false, cond, get_or}
+use Rattle.std.specs.Prelude.{ℕ, ◌≤◌, ◌≡◌, List, [], ◌∷◌, true, false, get_or}
 use Rattle.std.proofs.Math.Path.{refl}
-use Rattle.std.proofs.Common.{sym, ◌∙◌, ap, arith}
+use Rattle.std.proofs.Common.{ap, arith}
 use Rattle.truth.specs.Truth.Bools.{by_split, clash}
 use Rattle.sets.specs.Sets.{has}
 use Rattle.graph.specs.Graph.{privileged_by}

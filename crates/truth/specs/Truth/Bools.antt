@@ -1,6 +1,6 @@
 -- Laws of truth values, as facts of the form b ≡ true.
 use Rattle.std.specs.Prelude.{◌≡◌, refl, ◌⊎◌, Bool, true, false, not, ◌&&◌, ◌||◌}
-use Rattle.std.proofs.Common.{sym, ◌∙◌, ap, inl, inr, true≢false}
+use Rattle.std.proofs.Common.{sym, ◌∙◌, inl, inr, true≢false}
 use Rattle.std.proofs.lemmas.Bool.{false≢true}
 use Rattle.truth.specs.Truth.{◌⇒◌}
 

@@ -1,4 +1,3 @@
-use borrow.Author.Rules.{rules}
 use Rattle.verdict.proofs.rule.Goals as goal
 
 pub returns : goal.returns

@@ -1,9 +1,8 @@
 use Rattle.verdict.specs.Verdict.{refused, given, sets, graph, asked, no_check}
 use Rattle.graph.specs.Judge.Laws.{accepted_is, refused_is}
 use Rattle.truth.specs.Truth.Tests.{says_true, says_false}
-use borrow.Author.Tests.{eq-eqb, ne_eqb, not-true, not-false}
+use borrow.Author.Tests.{eq-eqb, ne_eqb}
 use native.Mathlib.Omega.{arith}
-use mathlib.Core.Path.{◌∙◌}
 use borrow.Author.Rules.{rules}
 use Rattle.verdict.proofs.verdict.Goals as goal
 

@@ -1,7 +1,6 @@
 use native.Mathlib.Omega.{arith}
 use Rattle.truth.specs.Truth.{fails}
 use Rattle.truth.specs.Truth.Tests.{says_same}
-use borrow.Author.Rules.{rules}
 use Rattle.worklist.proofs.can_link.Goals as goal
 
 pub returns-then-prev-froms : goal.returns-then-prev-froms

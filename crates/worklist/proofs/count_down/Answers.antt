@@ -1,7 +1,6 @@
-use Prim.Native.Nat.{◌-◌, ◌≤◌}
 use mathlib.Core.Path.{◌≡◌, refl, ap, ◌∙◌}
 use native.Mathlib.Omega.{arith}
-use lib.ListN.{length, length-set}
+use lib.ListN.{length-set}
 use Rattle.worklist.specs.Worklist.{count_down}
 use Rattle.worklist.specs.Worklist.Stack.{count_more}
 use Rattle.worklist.proofs.count_down.Goals as goal

@@ -1,10 +1,8 @@
 -- The places below i are written.
 use Prim.Native.Nat.{◌-◌, ◌≤◌}
-use mathlib.Core.Path.{◌≡◌, refl, ap, ◌∙◌}
-use native.Mathlib.Omega.{arith}
-use lib.ListN.{length, length-set}
+use mathlib.Core.Path.{◌≡◌}
+use lib.ListN.{length}
 use Rattle.worklist.specs.Worklist.{count_down}
-use Rattle.worklist.specs.Worklist.Stack.{count_more}
 use Rattle.worklist.proofs.count_down.Given as goal
 
 abbrev pub invariant-loop-i : goal.invariant-loop-i

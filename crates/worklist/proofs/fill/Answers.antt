@@ -1,7 +1,6 @@
 use native.Mathlib.Omega.{arith}
 use Rattle.worklist.specs.Worklist.{kept}
 use Rattle.worklist.specs.Worklist.Stack.{fills_by}
-use borrow.Author.Rules.{rules}
 use Rattle.worklist.proofs.fill.Goals as goal
 
 pub returns-then-stack-n : goal.returns-then-stack-n

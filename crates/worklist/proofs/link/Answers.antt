@@ -1,8 +1,6 @@
-use borrow.Author.Tests.{not-true, not-false}
 use Rattle.truth.specs.Truth.Tests.{says_true, says_false}
 use Rattle.worklist.specs.Worklist.{kept}
 use Rattle.worklist.specs.Worklist.Linking.{links_by}
-use borrow.Author.Rules.{rules}
 use Rattle.worklist.proofs.link.Goals as goal
 
 pub returns-then-not-can_link : goal.returns-then-not-can_link

@@ -1,8 +1,8 @@
-use Prim.Native.Nat.{◌-◌, ◌≤◌, ◌<◌}
+use Prim.Native.Nat.{◌<◌}
 use mathlib.Core.Path.{◌≡◌, refl}
 use native.Mathlib.Omega.{arith}
 use lib.ListN.{length, get_or, length-set}
-use Rattle.worklist.specs.Worklist.{lists, link_to}
+use Rattle.worklist.specs.Worklist.{link_to}
 use Rattle.worklist.specs.Worklist.Linking.{link_more}
 use Rattle.worklist.proofs.link_all.Goals.{In-loop-e}
 use Rattle.worklist.proofs.link_all.Goals as goal

@@ -1,10 +1,8 @@
 -- The edges below e are linked.
-use Prim.Native.Nat.{◌-◌, ◌≤◌, ◌<◌}
-use mathlib.Core.Path.{◌≡◌, refl}
-use native.Mathlib.Omega.{arith}
-use lib.ListN.{length, get_or, length-set}
+use Prim.Native.Nat.{◌-◌, ◌≤◌}
+use mathlib.Core.Path.{◌≡◌}
+use lib.ListN.{length}
 use Rattle.worklist.specs.Worklist.{lists, link_to}
-use Rattle.worklist.specs.Worklist.Linking.{link_more}
 use Rattle.worklist.proofs.link_all.Given as goal
 
 abbrev pub invariant-loop-e : goal.invariant-loop-e

@@ -1,7 +1,5 @@
 -- Each test that ends the call says why the node is not put, and past all of them it is.
-use borrow.Author.Tests.{not-true, not-false}
 use Rattle.worklist.specs.Worklist.Stack.{unwanted, full, markless, too_large, marked, stacked}
-use borrow.Author.Rules.{rules}
 use Rattle.worklist.proofs.put.Goals as goal
 
 pub returns-then-not-wanted : goal.returns-then-not-wanted

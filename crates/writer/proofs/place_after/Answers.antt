@@ -2,7 +2,6 @@ use Prim.Native.Nat.{◌+◌}
 use mathlib.Core.Path.{sym, ◌∙◌}
 use native.Mathlib.Omega.{arith}
 use Rattle.writer.specs.Writer.Places.{place_low, place_past}
-use borrow.Author.Rules.{rules}
 use Rattle.writer.proofs.place_after.Goals as goal
 
 pub returns-then-at-eq18446744073709551615 : goal.returns-then-at-eq18446744073709551615

@@ -1,6 +1,5 @@
 use native.Mathlib.Omega.{arith}
 use Rattle.writer.specs.Writer.Places.{put_past, put_in}
-use borrow.Author.Rules.{rules}
 use Rattle.writer.proofs.put.Goals as goal
 
 pub returns-then-out-at : goal.returns-then-out-at

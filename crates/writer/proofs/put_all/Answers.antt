@@ -1,8 +1,5 @@
-use Prim.Native.Nat.{◌-◌}
 use native.Mathlib.Omega.{arith}
-use lib.ListN.{length}
-use Rattle.writer.specs.Writer.Places.{puts_long, lent, Putting, putting_start, putting_more, putting_end}
-use borrow.Author.Rules.{rules}
+use Rattle.writer.specs.Writer.Places.{puts_long, lent, putting_start, putting_more, putting_end}
 use Rattle.writer.proofs.put_all.Goals as goal
 
 pub loop-i-init : goal.loop-i-init

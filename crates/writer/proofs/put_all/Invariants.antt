@@ -1,9 +1,7 @@
 -- After i turns the first i bytes are put.
 use Prim.Native.Nat.{◌-◌}
-use native.Mathlib.Omega.{arith}
 use lib.ListN.{length}
-use Rattle.writer.specs.Writer.Places.{puts_long, lent, Putting, putting_start, putting_more, putting_end}
-use borrow.Author.Rules.{rules}
+use Rattle.writer.specs.Writer.Places.{Putting}
 use Rattle.writer.proofs.put_all.Given as goal
 
 abbrev pub invariant-loop-i : goal.invariant-loop-i

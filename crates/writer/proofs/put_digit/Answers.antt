@@ -3,7 +3,6 @@ use mathlib.Core.List.{[], ◌∷◌}
 use Prim.Native.Nat.{ℕ}
 use Rattle.writer.specs.Writer.Places.{puts_as}
 use Rattle.writer.specs.Writer.Numbers.{one_glyph}
-use borrow.Author.Rules.{rules}
 use Rattle.writer.proofs.put_digit.Goals as goal
 
 pub returns : goal.returns

@@ -1,5 +1,4 @@
 use mathlib.Core.Path.{◌∙◌}
-use native.Mathlib.Omega.{arith}
 use Rattle.writer.specs.Writer.Numbers.{decimal_digits, fewest_short}
 use borrow.Author.Rules.{rules}
 use Rattle.writer.proofs.put_long.Goals as goal

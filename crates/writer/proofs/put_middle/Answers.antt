@@ -2,7 +2,6 @@
 use mathlib.Core.Path.{sym}
 use Rattle.writer.specs.Writer.Places.{puts_as, puts_then, lent}
 use Rattle.writer.specs.Writer.Numbers.{decimal_4}
-use borrow.Author.Rules.{rules}
 use Rattle.writer.proofs.put_middle.Goals as goal
 
 pub returns : goal.returns

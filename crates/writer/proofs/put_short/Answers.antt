@@ -1,7 +1,6 @@
 use mathlib.Core.Path.{sym}
 use Rattle.writer.specs.Writer.Places.{puts_as, puts_then, lent}
 use Rattle.writer.specs.Writer.Numbers.{decimal_1, decimal_2}
-use borrow.Author.Rules.{rules}
 use Rattle.writer.proofs.put_short.Goals as goal
 
 pub returns-then-n-lt10 : goal.returns-then-n-lt10

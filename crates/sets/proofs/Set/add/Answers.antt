@@ -1,5 +1,4 @@
 use Rattle.sets.specs.Sets.Code.{add_code, add_code_past}
-use borrow.Author.Rules.{rules}
 use Rattle.sets.proofs.Set.add.Goals as goal
 
 pub returns-then-p-lt-LIMIT : goal.returns-then-p-lt-LIMIT

@@ -2,7 +2,6 @@ use Rattle.sets.specs.Sets.Code.{all_code, all_code_past}
 use Rattle.truth.specs.Truth.Kit.{shl_one}
 use native.Mathlib.Omega.{arith}
 use lib.Pow.{pow_pos}
-use borrow.Author.Rules.{rules}
 use Rattle.sets.proofs.Set.all.Goals as goal
 
 pub overflow_sub-result : goal.overflow_sub-result

@@ -2,7 +2,6 @@ use Rattle.sets.specs.Sets.Code.{has_code}
 use Rattle.sets.specs.Sets.Members.{has_past}
 use native.Mathlib.Omega.{arith}
 use mathlib.Core.Path.{sym}
-use borrow.Author.Rules.{rules}
 use Rattle.sets.proofs.Set.has.Goals as goal
 
 pub returns-then-p-lt-LIMIT : goal.returns-then-p-lt-LIMIT

@@ -1,4 +1,3 @@
-use borrow.Author.Rules.{rules}
 use Rattle.sets.specs.Sets.Code.{empty_code}
 use Rattle.sets.proofs.Set.is_empty.Goals as goal
 

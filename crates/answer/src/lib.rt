@@ -1,5 +1,6 @@
 // What is printed for a text: the rows of its graph, or its refusal's row.
 #![tactic(auto)]
+
 ghost use Rattle.handover.specs.Handover.{lent_of};
 ghost use Rattle.answer.specs.Prints.{ReadsAnswers};
 ghost use Rattle.answer.specs.Prints.Parts.{Held, WritesRead};

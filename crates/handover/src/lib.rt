@@ -1,5 +1,6 @@
 // Hands a graph over: judges what the first places of slices hold, and copies it to the slices that a caller lends where it is accepted.
 #![tactic(auto)]
+
 ghost use Rattle.std.specs.Prelude.{◌≡◌, ◌≤◌, length, take};
 ghost use Rattle.std.proofs.lemmas.List.Edits.{sets};
 ghost use Rattle.graph.specs.Graph.{nodes_of, edges_of, map_node, map_edge, NodesLong, EdgesLong, Ranges};

@@ -1,5 +1,6 @@
 // The inspections of a stack, and its steps.
 #![tactic(auto)]
+
 ghost use Rattle.std.specs.Prelude.{◌≡◌, ◌<◌, ◌≤◌, length};
 ghost use Rattle.truth.specs.Truth.{Says, All};
 ghost use Rattle.graph.specs.Graph.{graph_of, edges_of, EdgesLong};

@@ -1,5 +1,6 @@
 // The rows that are printed for a graph, by the sets that solve it.
 #![tactic(auto)]
+
 ghost use Rattle.std.specs.Prelude.{◌≤◌, length};
 ghost use Rattle.graph.specs.Graph.{graph_of, ResultsLong};
 ghost use Rattle.report.specs.Report.{WritesGraph};

@@ -1,6 +1,7 @@
 // One round of the equations by slices, for any solver and any judge of out sets: from the sums of the nodes to the out sets of the edges, and
 // from these to the sums.
 #![tactic(auto)]
+
 ghost use Rattle.std.specs.Prelude.{◌≡◌, ℕ, ◌≤◌, ◌<◌, length, get_or};
 ghost use Rattle.truth.specs.Truth.{Says, All};
 ghost use Rattle.flow.specs.Walk.{system_of, carried_by};

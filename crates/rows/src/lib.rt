@@ -1,5 +1,6 @@
 // Writes a result's rows as bytes.
 #![tactic(auto)]
+
 ghost use Rattle.std.specs.Prelude.{◌≡◌, ◌∷◌, length};
 ghost use Rattle.truth.specs.Truth.{Says};
 ghost use Rattle.writer.specs.Writer.{Puts};

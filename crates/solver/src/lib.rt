@@ -1,5 +1,6 @@
 // The solver: for every node what is surely denied and surely granted, by the two equation systems.
 #![tactic(auto)]
+
 ghost use Rattle.std.specs.Prelude.{◌≡◌, ℕ, ◌+◌, ◌-◌, ◌≤◌, ◌<◌, false, length, get_or};
 ghost use Rattle.graph.specs.Graph.{graph_of, size_of, Acceptable, Content, ResultsLong};
 ghost use Rattle.worklist.specs.Worklist.{Linked};

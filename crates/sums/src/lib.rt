@@ -1,5 +1,6 @@
 // The running sums of the nodes: of all that arrives at a node, and of what arrives and passes its check. Every call takes all inputs.
 #![tactic(auto)]
+
 ghost use Rattle.std.specs.Prelude.{◌≡◌, ℕ, ◌≤◌, ◌<◌, length, get_or};
 ghost use Rattle.truth.specs.Truth.{Says};
 ghost use Rattle.flow.specs.Walk.{system_of, Begun};

@@ -1,5 +1,6 @@
 // Reads the graph of a text into the slices that a caller lends.
 #![tactic(auto)]
+
 ghost use Rattle.std.specs.Prelude.{◌≡◌, ◌<◌, ◌≤◌};
 ghost use Rattle.graph.specs.Graph.{nodes_of, edges_of};
 ghost use Rattle.handover.specs.Handover.{lent_of, Room};

@@ -1,6 +1,5 @@
 -- What was read is handed on with the slices that hold it.
 use Rattle.answer.specs.Prints.Laws.{tells_held, reads_answers}
-use borrow.Author.Rules.{rules}
 use Rattle.answer.proofs.write_answer.Goals as goal
 
 pub write_read-requires : goal.write_read-requires

@@ -1,7 +1,6 @@
 -- The slices have places for what was read, so the parts of them that are handed on lie within.
 use native.Mathlib.Omega.{arith}
 use Rattle.answer.specs.Prints.Parts.{graph_read, nothing_read}
-use borrow.Author.Rules.{rules}
 use Rattle.answer.proofs.write_read.Goals as goal
 
 pub slice_bounds-write_graph-end : goal.slice_bounds-write_graph-end

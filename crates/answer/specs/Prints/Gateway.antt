@@ -5,14 +5,13 @@ use Rattle.truth.specs.Truth.Bools.{by_split}
 use Rattle.sets.specs.Sets.{has}
 use Rattle.sets.specs.Sets.Members.{below_members}
 use Rattle.sets.specs.Sets.Code.{has_code}
-use Rattle.graph.specs.Graph.{Graph, Content, verdict_of}
+use Rattle.graph.specs.Graph.{Graph, Content}
 use Rattle.graph.specs.Graph.Code.{verdict_code}
 use Rattle.graph.specs.Graph.Gateway.{gateway, gateway_slices, gateway_accepted, gateway_content}
 use Rattle.graph.specs.Judge.{judge, Judges}
 use Rattle.graph.specs.Judge.Laws.{judges_judge}
 use Rattle.graph.specs.declared.Judged.{Judged}
-use Rattle.graph.specs.declared.Judged.TheVariants as judged
-use Rattle.text.specs.Text.{Outcome, on_meaning, on_judged, outcome_from, outcome, read, graph_from}
+use Rattle.text.specs.Text.{on_meaning, on_judged, outcome_from, outcome, read}
 use Rattle.text.specs.Text.Gateway.{gateway_text, gateway_nodes, gateway_edges, gateway_means, gateway_graph}
 use Rattle.writer.specs.Writer.{decimal_by}
 use Rattle.members.specs.Members.{members_from, after_first}

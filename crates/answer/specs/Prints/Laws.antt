@@ -1,5 +1,5 @@
 -- One output for every text, and never too long; how an answer follows from those of the calls that are made for it.
-use Rattle.std.specs.Prelude.{ℕ, suc, ◌≤◌, ◌<◌, ◌≡◌, refl, List, true, false, length, take, replicate}
+use Rattle.std.specs.Prelude.{ℕ, suc, ◌≤◌, ◌<◌, ◌≡◌, refl, List, length, take, replicate}
 use Rattle.std.proofs.Common.{sym, ap, ◌∙◌, subst, arith, lt-ltb}
 use Rattle.std.proofs.Math.Nat.{sub-zero}
 use Rattle.std.proofs.lemmas.List.Edits.{sets}
@@ -9,7 +9,7 @@ use Rattle.truth.specs.Truth.Tests.{says_true}
 use Rattle.truth.specs.Truth.Kit.{take_sets}
 use Rattle.graph.specs.Graph.{Graph, size_of, Acceptable, Slices, Content}
 use Rattle.graph.specs.Graph.Results.{content_one, content_exists}
-use Rattle.graph.specs.Refusals.{Numbered, numbered, ◌at◌}
+use Rattle.graph.specs.Refusals.{Numbered, ◌at◌}
 use Rattle.graph.specs.declared.Size.{Size}
 use Rattle.graph.specs.declared.Refusal.{Refusal}
 use Rattle.records.specs.declared.Node.{Node}

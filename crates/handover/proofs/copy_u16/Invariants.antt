@@ -1,10 +1,7 @@
-use Prim.Native.Nat.{ℕ, ◌+◌, ◌-◌, ◌≤◌}
-use mathlib.Core.Path.{◌≡◌, refl, sym, ◌∙◌}
-use borrow.Author.Rules.{rules}
-use native.Mathlib.Omega.{arith}
-use lib.ListN.{length, take, drop, length-set}
+use Prim.Native.Nat.{◌-◌}
+use mathlib.Core.Path.{◌≡◌}
+use lib.ListN.{length, take, drop}
 use lib.Seq.{sets}
-use Rattle.handover.specs.Handover.Copies.{copy_start, copy_out, copy_step}
 use Rattle.handover.proofs.copy_u16.Given as goal
 
 abbrev pub invariant-loop-i : goal.invariant-loop-i

@@ -1,9 +1,6 @@
-use Prim.Native.Nat.{ℕ, ◌+◌, ◌-◌, ◌≤◌}
-use mathlib.Core.Path.{◌≡◌, refl, sym, ◌∙◌}
-use borrow.Author.Rules.{rules}
+use mathlib.Core.Path.{refl, sym, ◌∙◌}
 use native.Mathlib.Omega.{arith}
-use lib.ListN.{length, take, drop, length-set}
-use lib.Seq.{sets}
+use lib.ListN.{length-set}
 use Rattle.handover.specs.Handover.Copies.{copy_start, copy_out, copy_step}
 use Rattle.handover.proofs.copy_u8.Goals as goal
 

@@ -2,16 +2,13 @@
 -- lengths and counts that the copies ask for.
 -- ---- the way back from a place
 use Rattle.truth.specs.Truth.Tests.{says_true, says_false}
-use borrow.Author.Tests.{not-true, not-false}
 use Rattle.handover.specs.Handover.{Lent, lent_of, Room, cramped, refused, accepted}
 use Rattle.handover.specs.Handover.Laws.{held_by, held_fine}
-use borrow.Author.Rules.{rules}
 use Rattle.handover.proofs.hand_over.Goals.{After-judge_held-judged}
 use Rattle.handover.proofs.hand_over.Goals as goal
 
 -- what is known once the graph was judged
 module _ (c : After-judge_held-judged) where
-
   abbrev lent : Lent
   lent = lent_of c.args.kinds.now c.args.checks.now c.args.privileged.now c.args.entries.now c.args.grants.now c.args.froms.now c.args.tos.now c.args.ways.now
 

@@ -1,6 +1,5 @@
 use Rattle.handover.specs.Handover.{lent_of}
 use Rattle.handover.specs.Handover.Laws.{judged_held}
-use borrow.Author.Rules.{rules}
 use Rattle.handover.proofs.judge.Goals as goal
 
 pub returns : goal.returns

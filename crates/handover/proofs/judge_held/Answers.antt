@@ -1,8 +1,6 @@
 use Rattle.truth.specs.Truth.Tests.{says_true, says_false}
-use borrow.Author.Tests.{not-true, not-false}
 use Rattle.handover.specs.Handover.{bare, judged}
 use Rattle.handover.specs.Handover.Laws.{range_refuses}
-use borrow.Author.Rules.{rules}
 use Rattle.handover.proofs.judge_held.Goals as goal
 
 pub returns-then-not-has_room : goal.returns-then-not-has_room

@@ -7,7 +7,7 @@ use Rattle.std.proofs.Math.Seq.{length-sets}
 use Rattle.truth.specs.Truth.{Says}
 use Rattle.truth.specs.Truth.Kit.{take_sets}
 use Rattle.truth.specs.Truth.Tests.{says_same, eq?, and?}
-use Rattle.graph.specs.Graph.{Graph, PerNode, PerEdge, nodes_of, edges_of, map_node, map_edge, NodesLong, EdgesLong, Ranges}
+use Rattle.graph.specs.Graph.{PerNode, PerEdge, nodes_of, edges_of, map_node, map_edge, NodesLong, EdgesLong, Ranges}
 use Rattle.graph.specs.Judge.{Refuses, Judges}
 use Rattle.graph.specs.Judge.Laws.{each_node?, each_edge?, accepted_is, judges_one}
 use Rattle.graph.specs.declared.Size.{Size}

@@ -5,7 +5,6 @@ use Rattle.machine.specs.Steps.Parts.{no_place}
 use Rattle.machine.specs.Steps.{Rule}
 use Rattle.machine.specs.Steps.Parts.{somewhere}
 use Rattle.edges.specs.Leading.Search.{leads_so, leads_not}
-use borrow.Author.Rules.{rules}
 use Rattle.machine.proofs.find_place.Goals as goal
 
 pub returns-then-entries-next-eq-MARKED : goal.returns-then-entries-next-eq-MARKED

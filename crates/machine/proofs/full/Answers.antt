@@ -1,9 +1,7 @@
 use Rattle.machine.specs.Inspect.{FullAnswers, graph, asked, stack}
 use Rattle.graph.specs.Judge.Laws.{accepted_is, refused_is}
 use Rattle.truth.specs.Truth.Tests.{says_true, says_false}
-use borrow.Author.Tests.{not-true, not-false}
 use native.Mathlib.Omega.{arith}
-use borrow.Author.Rules.{rules}
 use Rattle.machine.proofs.full.Goals as goal
 
 pub returns-in-Refused : goal.returns-in-Refused

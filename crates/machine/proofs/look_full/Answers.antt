@@ -1,18 +1,14 @@
-use mathlib.Core.Path.{◌≡◌, sym, ◌∙◌}
+use mathlib.Core.Path.{sym, ◌∙◌}
 use Prim.Native.Nat.{ℕ, ◌-◌, ◌<◌}
 use lib.ListN.{length, get_or}
 use native.Mathlib.Omega.{arith}
-use borrow.Author.Rules.{rules}
-use borrow.Author.Tests.{not-true, not-false}
-use Rattle.stacks.specs.Machine.{rights, full}
 use Rattle.stacks.specs.Machine.Inspections.{full_bottom, full_lacks, full_stops, full_below}
-use Rattle.machine.specs.Inspect.Looking.{Looking, looking_start, looking_passes, looking_fails, looking_below, looking_end}
+use Rattle.machine.specs.Inspect.Looking.{looking_start, looking_passes, looking_fails, looking_below, looking_end}
 use Rattle.machine.proofs.look_full.Goals.{In-loop-h}
 use Rattle.machine.proofs.look_full.Goals as goal
 
 -- what a turn knows: the top frame of those left is a node
 module _ (c : In-loop-h) where
-
   abbrev top : ℕ
   top = c.loop-h.h - 1
 

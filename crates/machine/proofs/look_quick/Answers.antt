@@ -1,17 +1,14 @@
-use mathlib.Core.Path.{◌≡◌, sym, ◌∙◌}
+use mathlib.Core.Path.{sym, ◌∙◌}
 use Prim.Native.Nat.{ℕ, ◌-◌, ◌<◌}
 use lib.ListN.{length, get_or}
 use native.Mathlib.Omega.{arith}
-use borrow.Author.Rules.{rules}
-use Rattle.stacks.specs.Machine.{quick}
 use Rattle.stacks.specs.Machine.Inspections.{quick_bottom, quick_denies, quick_grants, quick_below}
-use Rattle.machine.specs.Inspect.Looking.{Looking, looking_start, looking_passes, looking_fails, looking_below, looking_end}
+use Rattle.machine.specs.Inspect.Looking.{looking_start, looking_passes, looking_fails, looking_below, looking_end}
 use Rattle.machine.proofs.look_quick.Goals.{In-loop-h}
 use Rattle.machine.proofs.look_quick.Goals as goal
 
 -- what a turn knows: the top frame of those left is a node
 module _ (c : In-loop-h) where
-
   abbrev top : ℕ
   top = c.loop-h.h - 1
 

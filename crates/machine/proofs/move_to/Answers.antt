@@ -1,7 +1,6 @@
 use native.Mathlib.Omega.{arith}
 use Rattle.machine.specs.Steps.Parts.{denies, lacks_room, moves}
 use Rattle.truth.specs.Truth.Tests.{says_true, says_false}
-use borrow.Author.Rules.{rules}
 use Rattle.machine.proofs.move_to.Goals as goal
 
 pub returns-then-top_denied : goal.returns-then-top_denied

@@ -1,10 +1,8 @@
 use Rattle.machine.specs.Inspect.{QuickAnswers, graph, asked, stack}
 use Rattle.graph.specs.Judge.Laws.{accepted_is, refused_is}
 use Rattle.truth.specs.Truth.Tests.{says_true, says_false}
-use borrow.Author.Tests.{not-true, not-false}
 use native.Mathlib.Omega.{arith}
 use mathlib.Core.Path.{◌∙◌, sym, refl}
-use borrow.Author.Rules.{rules}
 use Rattle.machine.proofs.quick.Goals as goal
 
 pub returns-then-not-sets_long : goal.returns-then-not-sets_long

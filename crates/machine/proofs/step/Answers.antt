@@ -1,8 +1,6 @@
 -- Past the judgement the graph is accepted, and past the stack's test the stack fits (`accepted`, `fits`): what is behind every later answer.
-use Prim.Native.Nat.{ℕ, ◌<◌}
+use Prim.Native.Nat.{◌<◌}
 use native.Mathlib.Omega.{arith}
-use mathlib.Core.List.{List}
-use borrow.Author.Tests.{not-true, not-false}
 use Rattle.truth.specs.Truth.Tests.{says_true, says_false}
 use Rattle.graph.specs.Graph.{Graph, graph_of, Acceptable}
 use Rattle.graph.specs.Judge.Laws.{accepted_is, refused_is}
@@ -10,12 +8,10 @@ use Rattle.machine.specs.Steps.Parts.{nowhere_refuses, takes_steps, place_low}
 use Rattle.frames.specs.Frames.{StackFits}
 use Rattle.machine.specs.Inspect.{Asks, graph, asked, stack}
 use Rattle.machine.specs.Steps.{Steps, StepRefuses}
-use borrow.Author.Rules.{rules}
 use Rattle.machine.proofs.step.Goals.{Else-not-stack_fits, In_default}
 use Rattle.machine.proofs.step.Goals as goal
 
 module _ (c : In_default) where
-
   abbrev g : Graph
   g =
       graph_of c.args.size c.args.kinds.now c.args.checks.now c.args.privileged.now c.args.entries.now

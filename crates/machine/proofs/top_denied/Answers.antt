@@ -4,13 +4,11 @@ use native.Mathlib.Omega.{arith}
 use Rattle.machine.specs.Steps.Parts.{passes_says, fails_says, never_refuses}
 use Rattle.truth.specs.Truth.Bools.{clash}
 use Rattle.truth.specs.Truth.{holds, fails}
-use borrow.Author.Rules.{rules}
 use Rattle.machine.proofs.top_denied.Goals.{Else-height-eq0}
 use Rattle.machine.proofs.top_denied.Goals as goal
 
 -- What is known where there is a top frame: its place in the slice, and that it is a node.
 module _ (c : Else-height-eq0) where
-
   abbrev top : ℕ
   top = c.args.height - 1
 

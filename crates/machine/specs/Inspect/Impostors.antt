@@ -1,7 +1,7 @@
 -- Quick inspections that the promise shuts out, at the worked gateway's stack 1 4 5 and permission 0: one that runs the full rule, and one that
 -- invents its count. Demand 3 alone would admit the first.
 use Rattle.std.specs.Prelude.{ℕ, ◌≡◌, refl, List, [], ◌∷◌}
-use Rattle.std.proofs.Common.{sym, ◌∙◌, ap, arith}
+use Rattle.std.proofs.Common.{◌∙◌, ap, arith}
 use Rattle.graph.specs.Graph.{Slices, Content}
 use Rattle.graph.specs.Graph.Gateway.{gateway}
 use Rattle.machine.specs.declared.Inspection.TheVariants as answer

@@ -1,16 +1,14 @@
 -- One answer for every input.
-use Rattle.std.specs.Prelude.{ℕ, ◌<◌, ◌≡◌, refl, List, length, Bool, true, false, cond}
+use Rattle.std.specs.Prelude.{ℕ, ◌≡◌, refl, List, cond}
 use Rattle.std.proofs.Common.{sym, ◌∙◌, ap}
 use Rattle.graph.specs.Graph.{Graph}
-use Rattle.graph.specs.Refusals.{Numbered, ◌at◌, numbered}
+use Rattle.graph.specs.Refusals.{Numbered}
 use Rattle.graph.specs.Refusals.Laws.{numbered_one}
 use Rattle.graph.specs.Judge.Laws.{refuses_one, refuses_not}
-use Rattle.graph.specs.declared.Refusal.{Refusal}
 use Rattle.machine.specs.declared.Inspection.{Inspection}
 use Rattle.machine.specs.declared.Inspection.TheVariants as answer
 use Rattle.stacks.specs.Machine.{Inspected}
 use Rattle.machine.specs.Inspect.{SaysSo, passes, fails, Asks, AskRefuses, graph, asked, stack, FullAnswers, QuickAnswers}
-use Rattle.verdict.specs.Verdict.{SetsLong}
 
 -- an answer that says so is fixed by what it says
 answer_of : Inspected → Inspection

@@ -1,5 +1,5 @@
 -- An inspection of a slice, frame by frame from the top down: what the loops of `look_full` and `look_quick` keep, and their four ways on.
-use Rattle.std.specs.Prelude.{ℕ, ◌+◌, ◌-◌, ◌<◌, ◌≤◌, ◌≡◌, refl, List, [], ◌∷◌, Bool, true, false, get_or}
+use Rattle.std.specs.Prelude.{ℕ, ◌+◌, ◌-◌, ◌<◌, ◌≤◌, ◌≡◌, List, [], ◌∷◌, Bool, true, false, get_or}
 use Rattle.std.proofs.Common.{◌∙◌, ap, arith}
 use Rattle.machine.specs.declared.Inspection.TheVariants as answer
 use Rattle.stacks.specs.Machine.{Inspected, decided, below, bottom, stack_of}

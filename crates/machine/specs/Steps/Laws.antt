@@ -1,8 +1,8 @@
 -- At most one rule leads to a node; one answer and one content for every input.
-use Rattle.std.specs.Prelude.{ℕ, ◌<◌, ◌+◌, ◌-◌, ◌≡◌, refl, List, length, set}
-use Rattle.std.proofs.Common.{sym, ◌∙◌, ap, subst, arith}
+use Rattle.std.specs.Prelude.{ℕ, ◌<◌, ◌+◌, ◌≡◌, refl, List, length, set}
+use Rattle.std.proofs.Common.{ap, arith}
 use Rattle.graph.specs.Graph.{Graph, PerEdge}
-use Rattle.graph.specs.Refusals.{Numbered, numbered}
+use Rattle.graph.specs.Refusals.{Numbered}
 use Rattle.graph.specs.Refusals.Laws.{numbered_one}
 use Rattle.machine.specs.declared.Stepped.{Stepped}
 use Rattle.machine.specs.declared.Stepped.TheVariants as answer

@@ -1,6 +1,6 @@
 -- Runs of the call: what calls of `step` one after the other make of a slice is reachable, and every reachable stack is made so, where the slice has room for the stacks
 -- on the way. So `Reachable` is neither too wide nor too narrow.
-use Rattle.std.specs.Prelude.{ℕ, suc, ◌+◌, ◌-◌, ◌≤◌, ◌<◌, ◌≡◌, refl, List, [], ◌∷◌, length, get_or, set}
+use Rattle.std.specs.Prelude.{ℕ, suc, ◌+◌, ◌≤◌, ◌<◌, ◌≡◌, refl, List, [], length, get_or, set}
 use Rattle.std.proofs.Common.{sym, ◌∙◌, ap, arith, length-set, get_or-set_same, get_or-set_other, below_more}
 use Rattle.truth.specs.Truth.{All}
 use Rattle.graph.specs.Graph.{Graph, Acceptable, Leads}
@@ -8,7 +8,6 @@ use Rattle.stacks.specs.Machine.{stack_of, Step, Reachable}
 use Rattle.stacks.specs.Machine.Slices.{bare, height_of}
 use Rattle.frames.specs.Frames.{Frame, StackFits}
 use Rattle.machine.specs.declared.Stepped.TheVariants as answer
-use Rattle.machine.specs.Inspect.{Asks}
 use Rattle.machine.specs.Steps.{Rule, RuleOf, Steps}
 use Rattle.machine.specs.Steps.Sound.{step_reaches, step_complete, step_takes}
 

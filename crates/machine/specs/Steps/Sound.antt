@@ -1,5 +1,5 @@
 -- The call takes steps of the rules, and every one of them that has a place in the slice.
-use Rattle.std.specs.Prelude.{ℕ, ◌<◌, ◌+◌, ◌-◌, ◌≡◌, refl, List, [], ◌∷◌, true, false, length, get_or, set}
+use Rattle.std.specs.Prelude.{ℕ, ◌<◌, ◌+◌, ◌-◌, ◌≡◌, refl, List, ◌∷◌, true, length, get_or, set}
 use Rattle.std.proofs.Common.{sym, ◌∙◌, ap, arith, eqb-true, eq-eqb}
 use Rattle.truth.specs.Truth.Bools.{by_split, clash}
 use Rattle.graph.specs.Graph.{Graph, kind, check}

@@ -1,6 +1,5 @@
 use native.Mathlib.Omega.{arith}
 use Rattle.report.specs.Report.Laws.{too_large}
-use borrow.Author.Rules.{rules}
 use Rattle.report.proofs.write_graph.Goals as goal
 
 pub returns-then-n-gt-MOST_NODES : goal.returns-then-n-gt-MOST_NODES

@@ -1,5 +1,4 @@
-use Rattle.report.specs.Report.Parts.{WritesJudged, when_accepted, when_refused}
-use borrow.Author.Rules.{rules}
+use Rattle.report.specs.Report.Parts.{when_accepted, when_refused}
 use Rattle.report.proofs.write_judged.Goals as goal
 
 pub returns-in-Accepted : goal.returns-in-Accepted

@@ -1,5 +1,4 @@
 use Rattle.report.specs.Report.Laws.{graph_written}
-use borrow.Author.Rules.{rules}
 use Rattle.report.proofs.write_solved.Goals as goal
 
 pub returns : goal.returns

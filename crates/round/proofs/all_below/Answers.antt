@@ -1,9 +1,8 @@
-use Prim.Native.Nat.{◌-◌, ◌≤◌, ◌<◌}
 use mathlib.Core.Path.{◌≡◌}
 use native.Mathlib.Omega.{arith}
 use borrow.Author.Count.{below_none, below_more}
-use lib.ListN.{length, get_or}
-use Rattle.truth.specs.Truth.{Says, holds, All}
+use lib.ListN.{length}
+use Rattle.truth.specs.Truth.{holds}
 use Rattle.truth.specs.Truth.Tests.{says_same, and?, lt?}
 use Rattle.round.proofs.all_below.Goals as goal
 

@@ -1,11 +1,7 @@
 -- The answer so far says whether all numbers before i are below n.
 use Prim.Native.Nat.{◌-◌, ◌≤◌, ◌<◌}
-use mathlib.Core.Path.{◌≡◌}
-use native.Mathlib.Omega.{arith}
-use borrow.Author.Count.{below_none, below_more}
 use lib.ListN.{length, get_or}
-use Rattle.truth.specs.Truth.{Says, holds, All}
-use Rattle.truth.specs.Truth.Tests.{says_same, and?, lt?}
+use Rattle.truth.specs.Truth.{Says, All}
 use Rattle.round.proofs.all_below.Given as goal
 
 abbrev pub invariant-loop-i : goal.invariant-loop-i

@@ -1,7 +1,6 @@
 use native.Mathlib.Omega.{arith}
 use Rattle.truth.specs.Truth.{fails}
 use Rattle.truth.specs.Truth.Tests.{says_same}
-use borrow.Author.Rules.{rules}
 use Rattle.round.proofs.can_gather.Goals as goal
 
 pub returns-then-n-gt-LARGEST : goal.returns-then-n-gt-LARGEST

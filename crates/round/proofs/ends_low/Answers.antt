@@ -1,8 +1,6 @@
 use native.Mathlib.Omega.{arith}
-use borrow.Author.Tests.{not-true, not-false}
 use Rattle.truth.specs.Truth.{fails}
 use Rattle.truth.specs.Truth.Tests.{says_true, says_false, says_same}
-use borrow.Author.Rules.{rules}
 use Rattle.round.proofs.ends_low.Goals as goal
 
 pub returns-then-n-gt-LARGEST : goal.returns-then-n-gt-LARGEST

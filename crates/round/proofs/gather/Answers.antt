@@ -1,9 +1,7 @@
 -- Where the edges can't be sent, or the sums can't begin, nothing is stored; else the loop sends all.
-use borrow.Author.Tests.{not-true, not-false}
 use Rattle.truth.specs.Truth.Tests.{says_true, says_false}
 use Rattle.round.specs.Round.{unsent}
 use Rattle.round.specs.Round.Laws.{unbegun_by, gathered_by}
-use borrow.Author.Rules.{rules}
 use Rattle.round.proofs.gather.Goals as goal
 
 pub returns-then-not-can_gather : goal.returns-then-not-can_gather

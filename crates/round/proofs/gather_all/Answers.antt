@@ -1,8 +1,7 @@
-use Prim.Native.Nat.{ℕ, ◌-◌, ◌≤◌, ◌<◌}
+use Prim.Native.Nat.{ℕ, ◌<◌}
 use mathlib.Core.Path.{◌≡◌, refl, ◌∙◌}
 use native.Mathlib.Omega.{arith}
 use lib.ListN.{length, get_or}
-use borrow.Author.Rules.{rules}
 use Rattle.flow.specs.Walk.{system_of}
 use Rattle.round.specs.Round.{ins_to, past_to}
 use Rattle.round.specs.Round.Laws.{gather_more}
@@ -11,7 +10,6 @@ use Rattle.round.proofs.gather_all.Goals as goal
 
 -- what a turn knows: its edge is one, and ends at a node
 module _ (c : In-loop-e) where
-
   abbrev edge : ℕ
   edge = c.loop-e.e
 

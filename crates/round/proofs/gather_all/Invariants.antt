@@ -1,12 +1,9 @@
 -- The sums are what the edges below e make of them, and keep their lengths.
-use Prim.Native.Nat.{ℕ, ◌-◌, ◌≤◌, ◌<◌}
-use mathlib.Core.Path.{◌≡◌, refl, ◌∙◌}
-use native.Mathlib.Omega.{arith}
-use lib.ListN.{length, get_or}
-use borrow.Author.Rules.{rules}
+use Prim.Native.Nat.{◌-◌, ◌≤◌}
+use mathlib.Core.Path.{◌≡◌}
+use lib.ListN.{length}
 use Rattle.flow.specs.Walk.{system_of}
 use Rattle.round.specs.Round.{ins_to, past_to}
-use Rattle.round.specs.Round.Laws.{gather_more}
 use Rattle.round.proofs.gather_all.Given as goal
 
 abbrev pub invariant-loop-e : goal.invariant-loop-e

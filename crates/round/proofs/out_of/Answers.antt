@@ -1,5 +1,4 @@
 -- What leaves the from node is by its places of the slices, so what the edge carries is `carried_by`.
-use borrow.Author.Rules.{rules}
 use Rattle.round.proofs.out_of.Goals as goal
 
 pub returns : goal.returns

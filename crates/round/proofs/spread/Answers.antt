@@ -1,8 +1,6 @@
 -- Where a test fails nothing is stored; else the slices have room, the ends are nodes, and the loop stores all.
-use borrow.Author.Tests.{not-true, not-false}
 use Rattle.truth.specs.Truth.Tests.{says_true, says_false}
 use Rattle.round.specs.Round.{CanSpread, spread, unspread}
-use borrow.Author.Rules.{rules}
 use Rattle.round.proofs.spread.Goals.{Else-not-ends_low}
 use Rattle.round.proofs.spread.Goals as goal
 
@@ -14,7 +12,6 @@ returns-then-not-ends_low c = unspread (λ p. says_false c.ends_low.ensures (c.i
 
 -- past both tests
 module _ (c : Else-not-ends_low) where
-
   can : CanSpread c.args.kinds.now c.args.checks.now c.args.privileged.now c.args.grants.now c.args.froms.now c.args.tos.now c.args.ways.now c.args.any.now c.args.ins.now c.args.past.now c.args.out.now
   can = record {
     room = says_true c.have_room.ensures (c.if-not-have_room.false);

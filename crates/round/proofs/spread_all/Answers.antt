@@ -1,8 +1,5 @@
-use Prim.Native.Nat.{◌-◌}
-use lib.ListN.{length}
 use native.Mathlib.Omega.{arith}
-use Rattle.worklist.specs.Worklist.Filled.{Filled, filled_none, filled_more, filled_all, filled_rest}
-use Rattle.flow.specs.Walk.{system_of, carried_by}
+use Rattle.worklist.specs.Worklist.Filled.{filled_none, filled_more, filled_all, filled_rest}
 use Rattle.round.specs.Round.Laws.{carriable}
 use Rattle.round.proofs.spread_all.Goals as goal
 

@@ -1,10 +1,8 @@
 -- The out sets of the edges below e are stored.
 use Prim.Native.Nat.{◌-◌}
 use lib.ListN.{length}
-use native.Mathlib.Omega.{arith}
-use Rattle.worklist.specs.Worklist.Filled.{Filled, filled_none, filled_more, filled_all, filled_rest}
+use Rattle.worklist.specs.Worklist.Filled.{Filled}
 use Rattle.flow.specs.Walk.{system_of, carried_by}
-use Rattle.round.specs.Round.Laws.{carriable}
 use Rattle.round.proofs.spread_all.Given as goal
 
 abbrev pub invariant-loop-e : goal.invariant-loop-e

@@ -1,6 +1,6 @@
 -- The sums that are gathered from out sets hold what the equations say: in(n) of these sets, and what is past each check, for any sets.
 use Prim.Native.Nat.{ℕ, zero, suc, ◌≤◌, ◌<◌, ◌^◌}
-use Rattle.std.specs.Prelude.{◌≡◌, List, Bool, cond, ◌&&◌, ◌||◌, ◌↔◌, length, get_or, set, ltb}
+use Rattle.std.specs.Prelude.{◌≡◌, List, Bool, cond, ◌&&◌, ◌||◌, ◌↔◌, length, get_or, ltb}
 use Rattle.std.proofs.Math.Path.{refl, sym, subst}
 use Rattle.std.proofs.Common.{◌∙◌, ⊎_elim, arith, eqb-true, lt-ltb}
 use Rattle.std.proofs.Math.Bool.{true, false}
@@ -11,13 +11,12 @@ use Rattle.std.proofs.lemmas.Bool.{eqb-false}
 use Rattle.std.proofs.Math.Dec.{eqb}
 use Rattle.truth.specs.Truth.Bools.{same_bool, by_split, clash, both, right, either, or_left, or_right}
 use Rattle.sets.specs.Sets.{has}
-use Rattle.sets.specs.Sets.Members.{below_members}
-use Rattle.graph.specs.Graph.{Graph, Acceptable, System, may, sure, Outs, Arrival, arriving, in_set, past_set, out_set, out_rule, is_check, check, from, held}
+use Rattle.graph.specs.Graph.{Graph, Acceptable, System, may, sure, Arrival, arriving, in_set, past_set, out_set, is_check, check, from, held}
 use Rattle.graph.specs.Graph.Arrivals.{Arrives, by_mark, by_edge, arriving_mark, arriving_edge}
 use Rattle.graph.specs.Graph.Edges.{in_may, in_sure, past_may, past_sure}
 use Rattle.graph.specs.Graph.Rule.{out_by_rule, out_rule_mono}
 use Rattle.graph.specs.Graph.Rules.{from_low, check_low}
-use Rattle.flow.specs.Walk.{merge, past_num, judged_num, carried, AnyPasses, into, counts_by, counts, Toward, PastBelow, Begun, to_of}
+use Rattle.flow.specs.Walk.{merge, past_num, judged_num, carried, AnyPasses, into, counts, Toward, PastBelow, Begun, to_of}
 use Rattle.flow.specs.Walk.Order.{toward_refl, toward_trans, merge_left, merge_right, merge_both}
 use Rattle.flow.specs.Walk.Sums.{has_carried, has_past_sure, set_holds, edge_toward, edge_past, begun_below, begun_past_below, begun_good}
 use Rattle.sums.specs.Sums.{Room, begun, kept}

@@ -1,12 +1,12 @@
 -- What a round needs of its slices an accepted graph has.
-use Rattle.std.specs.Prelude.{ℕ, zero, suc, ◌+◌, ◌≤◌, ◌<◌, ◌≡◌, refl, List, Bool, true, false, length, get_or}
+use Rattle.std.specs.Prelude.{ℕ, ◌+◌, ◌≤◌, ◌<◌, ◌≡◌, refl, List, Bool, true, false, length, get_or}
 use Rattle.std.proofs.Common.{sym, ap, ◌∙◌, arith, add-one}
 use Rattle.graph.specs.Graph.{Graph, Acceptable, System}
 use Rattle.flow.specs.Walk.{counts_by, carried}
 use Rattle.truth.specs.Truth.Kit.{same_list}
 use Rattle.sums.specs.Sums.{Delivers, Begins, begun, kept}
 use Rattle.sums.specs.Sums.Laws.{begins_one}
-use Rattle.round.specs.Round.{Carriable, CanSpread, SpreadAll, Spreads, spread, unspread, ins_to, past_to, Gatherable, Gathers, gathered, unsent, unbegun}
+use Rattle.round.specs.Round.{Carriable, CanSpread, Spreads, spread, unspread, ins_to, past_to, Gatherable, Gathers, gathered, unsent, unbegun}
 use Rattle.truth.specs.Truth.Bools.{clash}
 
 pub carriable : (kinds checks privileged grants froms tos ways a s q out : List ℕ) → CanSpread kinds checks privileged grants froms tos ways a s q out

@@ -3,7 +3,6 @@ use mathlib.Core.Path.{refl}
 use native.Mathlib.Omega.{arith}
 use Rattle.writer.specs.Writer.Places.{puts_count}
 use Rattle.rows.specs.Result.Rows.{result_short}
-use borrow.Author.Rules.{rules}
 use Rattle.rows.proofs.count_result.Goals as goal
 
 pub slice_bounds-put_result-end : goal.slice_bounds-put_result-end

@@ -1,6 +1,4 @@
-use mathlib.Core.Path.{refl}
 use Rattle.writer.specs.Writer.Places.{puts_then, lent}
-use borrow.Author.Rules.{rules}
 use Rattle.rows.proofs.put_result.Goals as goal
 
 pub returns : goal.returns

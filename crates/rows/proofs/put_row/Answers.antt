@@ -1,7 +1,5 @@
 -- The parts of a row stand one after another: the number, the two sets, the verdict, the row's end.
-use mathlib.Core.Path.{refl}
 use Rattle.writer.specs.Writer.Places.{puts_then, lent, lent_after}
-use borrow.Author.Rules.{rules}
 use Rattle.rows.proofs.put_row.Goals as goal
 
 pub returns : goal.returns

@@ -1,5 +1,4 @@
 use Rattle.writer.specs.Writer.Places.{puts_then, lent}
-use borrow.Author.Rules.{rules}
 use Rattle.rows.proofs.put_set_field.Goals as goal
 
 pub returns : goal.returns

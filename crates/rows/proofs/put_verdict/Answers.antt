@@ -4,7 +4,6 @@ use Rattle.graph.specs.Graph.{verdict_of}
 use Rattle.writer.specs.Writer.{decimal}
 use Rattle.writer.specs.Writer.Places.{puts_as, puts_none}
 use Rattle.rows.specs.Result.Rows.{verdict_none, verdict_some}
-use borrow.Author.Rules.{rules}
 use Rattle.rows.proofs.put_verdict.Goals as goal
 
 pub returns-then-kind-ne-KIND_CHECK : goal.returns-then-kind-ne-KIND_CHECK

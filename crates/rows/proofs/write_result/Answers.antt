@@ -1,11 +1,9 @@
 -- A buffer with room for rows of the greatest length is written at once; for any other the rows are counted first.
 use native.Mathlib.Omega.{arith}
-use borrow.Author.Tests.{not-true, not-false}
 use Rattle.truth.specs.Truth.Tests.{says_true, says_false}
 use Rattle.rows.specs.Result.{shape, result}
 use Rattle.rows.specs.Result.Rows.{result_short}
 use Rattle.refusals.specs.Writes.Laws.{writes_none, writes_all, writes_close}
-use borrow.Author.Rules.{rules}
 use Rattle.rows.proofs.write_result.Goals as goal
 
 pub returns-then-not-is_long : goal.returns-then-not-is_long

@@ -1,6 +1,5 @@
 use Rattle.flow.specs.Walk.Sent.{arrived}
 use Rattle.sums.specs.Sums.Laws.{delivers_low}
-use borrow.Author.Rules.{rules}
 use Rattle.solver.proofs.arrive.Goals as goal
 
 pub returns : goal.returns

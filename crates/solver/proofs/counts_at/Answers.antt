@@ -1,6 +1,5 @@
 use Rattle.flow.specs.Walk.{judged_num}
 use borrow.Author.Tests.{ne_eqb}
-use borrow.Author.Rules.{rules}
 use Rattle.solver.proofs.counts_at.Goals as goal
 
 pub returns-then-kind-ne-KIND_CHECK : goal.returns-then-kind-ne-KIND_CHECK

@@ -4,7 +4,6 @@ use mathlib.Core.Path.{◌≡◌, refl, ◌∙◌}
 use Prim.Native.Nat.{ℕ}
 use lib.ListN.{length, length-replicate, get_or-replicate}
 use native.Mathlib.Omega.{arith}
-use borrow.Author.Rules.{rules}
 use Rattle.worklist.specs.Worklist.Stack.{fills_all}
 use Rattle.flow.specs.Walk.Taken.{walk_begins, rested}
 use Rattle.sums.specs.Sums.Laws.{begins_begun}
@@ -24,22 +23,20 @@ walk-requires c =
     record {
       setting = p.setting;
       walking =
-        walk_begins _ _ _ _ _ _ _ _ p.setting.acc (begins_begun _ _ _ _ _ _ _ _ (record {
-          ins_long = omega (arith, c.begin-arg-1.given.0.1, high);
-          past_long = omega (arith, c.begin-arg-2-1.given.0.1, high);
-          checks_long = omega (arith, shape.nodes.checks);
-          entries_long = omega (arith, shape.nodes.entries);
-          grants_long = omega (arith, shape.nodes.grants);
-        }) b.ensures) (omega (arith, c.walk-arg-1.given.0.1, high)) (omega (arith, c.walk-arg-2-1.given.0.1, high)) (omega (arith, marks, high)) (omega (arith, f.auto.stack, high))
-            (λ j l. get_or-replicate 1024 j 1 0 l) (fills_all _ _ (omega (arith, places, high)) (omega (arith, high)) f.ensures);
+          walk_begins _ _ _ _ _ _ _ _ p.setting.acc (begins_begun _ _ _ _ _ _ _ _ (record {
+            ins_long = omega (arith, c.begin-arg-1.given.0.1, high);
+            past_long = omega (arith, c.begin-arg-2-1.given.0.1, high);
+            checks_long = omega (arith, shape.nodes.checks);
+            entries_long = omega (arith, shape.nodes.entries);
+            grants_long = omega (arith, shape.nodes.grants);
+          }) b.ensures) (omega (arith, c.walk-arg-1.given.0.1, high)) (omega (arith, c.walk-arg-2-1.given.0.1, high)) (omega (arith, marks, high)) (omega (arith, f.auto.stack, high))
+          (λ j l. get_or-replicate 1024 j 1 0 l) (fills_all _ _ (omega (arith, places, high)) (omega (arith, high)) f.ensures);
       linked = p.linked;
       lengths = p.lengths;
     }
 
 -- at the end: the out sets stored, what the walk left of the sums, and that these have a place for each node still
 module _ (c : After-slice_known-2-1) where
-
-
   ins_long : length c.walk.new.ins ≡ 1024
   ins_long = c.walk.auto.ins ∙ c.walk-arg-1.given.0.1
 

@@ -1,16 +1,13 @@
-use mathlib.Core.Path.{◌≡◌, refl, ◌∙◌}
-use Prim.Native.Nat.{ℕ, ◌-◌, ◌≤◌, ◌<◌}
+use mathlib.Core.Path.{refl, ◌∙◌}
+use Prim.Native.Nat.{ℕ, ◌-◌, ◌<◌}
 use lib.ListN.{length, get_or}
 use native.Mathlib.Omega.{arith}
-use borrow.Author.Rules.{rules}
-use Rattle.flow.specs.Walk.{system_of, state, send_from}
 use Rattle.flow.specs.Walk.Sent.{sent_all, sent_one, bringable}
 use Rattle.solver.proofs.send.Goals.{In-loop-cur}
 use Rattle.solver.proofs.send.Goals as goal
 
 -- what a turn knows: its edge is one, leads to a node, and has the next one below it
 module _ (c : In-loop-cur) where
-
   abbrev edge : ℕ
   edge = c.loop-cur.cur - 1
 

@@ -1,12 +1,9 @@
 -- The loop's invariant: what is sent from here on makes of the slices what sending from the start makes of them as they were, and the
 -- slices keep their lengths. The measure is `cur`, since lists of edges lead down.
-use mathlib.Core.Path.{◌≡◌, refl, ◌∙◌}
-use Prim.Native.Nat.{ℕ, ◌-◌, ◌≤◌, ◌<◌}
-use lib.ListN.{length, get_or}
-use native.Mathlib.Omega.{arith}
-use borrow.Author.Rules.{rules}
+use mathlib.Core.Path.{◌≡◌}
+use Prim.Native.Nat.{◌≤◌}
+use lib.ListN.{length}
 use Rattle.flow.specs.Walk.{system_of, state, send_from}
-use Rattle.flow.specs.Walk.Sent.{sent_all, sent_one, bringable}
 use Rattle.solver.proofs.send.Given as goal
 
 abbrev pub invariant-loop-cur : goal.invariant-loop-cur

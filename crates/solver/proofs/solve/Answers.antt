@@ -2,8 +2,6 @@
 use Rattle.solver.specs.Solve.{results, graph, refused, solved}
 use Rattle.graph.specs.Judge.Laws.{accepted_is, refused_is}
 use Rattle.truth.specs.Truth.Tests.{says_true, says_false}
-use borrow.Author.Tests.{not-true, not-false}
-use borrow.Author.Rules.{rules}
 use Rattle.solver.proofs.solve.Goals as goal
 
 pub returns-then-not-results_long : goal.returns-then-not-results_long

@@ -1,9 +1,5 @@
-use Prim.Native.Nat.{◌-◌}
 use native.Mathlib.Omega.{arith}
-use borrow.Author.Rules.{rules}
-use Rattle.worklist.specs.Worklist.Filled.{Filled, filled_none, filled_more, filled_all}
-use Rattle.sets.specs.Sets.{all, without}
-use Rattle.flow.specs.Walk.{called_by}
+use Rattle.worklist.specs.Worklist.Filled.{filled_none, filled_more, filled_all}
 use Rattle.solver.proofs.store_nodes.Goals as goal
 
 pub loop-i-init : goal.loop-i-init

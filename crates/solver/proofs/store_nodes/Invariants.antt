@@ -1,8 +1,6 @@
 -- Both sets are stored for the nodes below i.
 use Prim.Native.Nat.{◌-◌}
-use native.Mathlib.Omega.{arith}
-use borrow.Author.Rules.{rules}
-use Rattle.worklist.specs.Worklist.Filled.{Filled, filled_none, filled_more, filled_all}
+use Rattle.worklist.specs.Worklist.Filled.{Filled}
 use Rattle.sets.specs.Sets.{all, without}
 use Rattle.flow.specs.Walk.{called_by}
 use Rattle.solver.proofs.store_nodes.Given as goal

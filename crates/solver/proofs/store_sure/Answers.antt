@@ -2,7 +2,6 @@
 -- for (`walked_content`).
 use mathlib.Core.Path.{sym, ◌∙◌}
 use native.Mathlib.Omega.{arith}
-use borrow.Author.Rules.{rules}
 use Rattle.flow.specs.Walk.Stored.{walked_content}
 use Rattle.flow.specs.Walk.Settled.{may_any}
 use Rattle.solver.proofs.store_sure.Goals as goal

@@ -2,9 +2,8 @@ use Prim.Native.Nat.{ℕ, ◌-◌, ◌+◌, ◌<◌}
 use mathlib.Core.Path.{◌≡◌, refl, ◌∙◌}
 use native.Mathlib.Omega.{arith}
 use lib.ListN.{length, get_or, length-set}
-use borrow.Author.Rules.{rules}
 use Rattle.graph.specs.Graph.{Graph, graph_of, size_of}
-use Rattle.flow.specs.Walk.{system_of, state, State, to_do, Walking}
+use Rattle.flow.specs.Walk.{system_of, state, State, Walking}
 use Rattle.worklist.specs.Worklist.{Linked}
 use Rattle.flow.specs.Walk.Taken.{top_low, node_reads, first_low, sendable}
 use Rattle.flow.specs.Walk.Taken as taken
@@ -13,7 +12,6 @@ use Rattle.solver.proofs.walk.Goals as goal
 
 -- what a turn knows
 module _ (c : In-loop-top) where
-
   abbrev g : Graph
   g = graph_of (size_of c.args.k c.args.n c.args.m) c.args.kinds.now c.args.checks.now c.args.privileged.now c.args.entries.now c.args.grants.now c.args.froms.now c.args.tos.now c.args.ways.now
 

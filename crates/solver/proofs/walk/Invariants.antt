@@ -1,15 +1,9 @@
 -- The loop's invariant is `Walking`, and that the slices keep their lengths. The measure is what is left to do: the sums that can still
 -- move, and the nodes on the stack.
-use Prim.Native.Nat.{ℕ, ◌-◌, ◌+◌, ◌<◌}
-use mathlib.Core.Path.{◌≡◌, refl, ◌∙◌}
-use native.Mathlib.Omega.{arith}
-use lib.ListN.{length, get_or, length-set}
-use borrow.Author.Rules.{rules}
-use Rattle.graph.specs.Graph.{Graph, graph_of, size_of}
-use Rattle.flow.specs.Walk.{system_of, state, State, to_do, Walking}
-use Rattle.worklist.specs.Worklist.{Linked}
-use Rattle.flow.specs.Walk.Taken.{top_low, node_reads, first_low, sendable}
-use Rattle.flow.specs.Walk.Taken as taken
+use mathlib.Core.Path.{◌≡◌}
+use lib.ListN.{length}
+use Rattle.graph.specs.Graph.{graph_of, size_of}
+use Rattle.flow.specs.Walk.{system_of, state, to_do, Walking}
 use Rattle.solver.proofs.walk.Given as goal
 
 abbrev pub invariant-loop-top : goal.invariant-loop-top

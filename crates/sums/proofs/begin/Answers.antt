@@ -1,8 +1,6 @@
 -- The sums begin only where there is room for them.
-use borrow.Author.Tests.{not-true, not-false}
 use Rattle.truth.specs.Truth.Tests.{says_true, says_false}
 use Rattle.sums.specs.Sums.{begun, kept}
-use borrow.Author.Rules.{rules}
 use Rattle.sums.proofs.begin.Goals as goal
 
 pub returns-then-not-have_room : goal.returns-then-not-have_room

@@ -1,9 +1,5 @@
-use Prim.Native.Nat.{◌-◌}
-use lib.ListN.{get_or}
 use native.Mathlib.Omega.{arith}
-use borrow.Author.Rules.{rules}
-use Rattle.worklist.specs.Worklist.Filled.{Filled, filled_none, filled_more, filled_all, filled_rest}
-use Rattle.flow.specs.Walk.{system_of, start_ins, start_past}
+use Rattle.worklist.specs.Worklist.Filled.{filled_none, filled_more, filled_all, filled_rest}
 use Rattle.sums.proofs.begin_all.Goals as goal
 
 pub loop-i-init : goal.loop-i-init

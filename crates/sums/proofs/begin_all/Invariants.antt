@@ -1,9 +1,7 @@
 -- Both sums are written for the nodes below i, and the rest is as it was.
 use Prim.Native.Nat.{◌-◌}
 use lib.ListN.{get_or}
-use native.Mathlib.Omega.{arith}
-use borrow.Author.Rules.{rules}
-use Rattle.worklist.specs.Worklist.Filled.{Filled, filled_none, filled_more, filled_all, filled_rest}
+use Rattle.worklist.specs.Worklist.Filled.{Filled}
 use Rattle.flow.specs.Walk.{system_of, start_ins, start_past}
 use Rattle.sums.proofs.begin_all.Given as goal
 

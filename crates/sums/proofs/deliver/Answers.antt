@@ -1,6 +1,4 @@
-use borrow.Author.Tests.{not-true, not-false}
 use Rattle.sums.specs.Sums.Laws.{uncounted, counted_too}
-use borrow.Author.Rules.{rules}
 use Rattle.sums.proofs.deliver.Goals as goal
 
 pub returns-then-not-counted : goal.returns-then-not-counted

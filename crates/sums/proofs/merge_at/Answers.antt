@@ -1,6 +1,5 @@
 use native.Mathlib.Omega.{arith}
 use Rattle.sums.specs.Sums.Laws.{merges_none, merges_same, merges_new}
-use borrow.Author.Rules.{rules}
 use Rattle.sums.proofs.merge_at.Goals as goal
 
 pub returns-then-sums-b : goal.returns-then-sums-b

@@ -1,13 +1,13 @@
 -- Sums that change and sums that don't, and what the calls come to where the sums have a place for the node.
-use Rattle.std.specs.Prelude.{ℕ, ◌≤◌, ◌<◌, ◌≡◌, refl, List, Bool, true, false, cond, ◌&&◌, ◌||◌, ltb, length, get_or, set}
-use Rattle.std.proofs.Common.{sym, ap, ap₂, ◌∙◌, arith, eq-eqb, ne_eqb, lt-ltb, le-ltb}
+use Rattle.std.specs.Prelude.{ℕ, ◌≤◌, ◌<◌, ◌≡◌, refl, List, Bool, true, false, ◌||◌, length, get_or, set}
+use Rattle.std.proofs.Common.{sym, ap, ◌∙◌, eq-eqb, ne_eqb, lt-ltb, le-ltb}
 use Rattle.std.proofs.Math.Bool.{or-false}
 use Rattle.std.proofs.lemmas.List.{set-get_or}
 use Rattle.std.proofs.Math.Seq.{set_out}
 use Rattle.truth.specs.Truth.Kit.{same_list}
 use Rattle.graph.specs.Graph.{System}
-use Rattle.flow.specs.Walk.{merge, into, changes, Begun, Delivered}
-use Rattle.sums.specs.Sums.{alters, Merges, Delivers, Room, Begins, begun, kept}
+use Rattle.flow.specs.Walk.{merge, Begun, Delivered}
+use Rattle.sums.specs.Sums.{Merges, Delivers, Room, Begins, begun, kept}
 
 -- ---- a set v arrives in a sum of node b
 

@@ -7,13 +7,11 @@ use Rattle.graph.specs.Graph.{Ranges}
 use Rattle.records.specs.Records.{header_at, got}
 use Rattle.records.specs.Records.Rows.{header_told, header_ranges}
 use Rattle.text.specs.Text.Ends.{parse_none, parse_stop, parse_past}
-use borrow.Author.Rules.{rules}
 use Rattle.text.proofs.parse.Goals.{In-At}
 use Rattle.text.proofs.parse.Goals as goal
 
 -- what is known once the first row was read, and is right
 module _ (c : In-At) where
-
   header : header_at c.args.s.now c.args.from ≡ got c.in-At.counts c.in-At.next
   header = header_told _ (sym c.read_header.ensures ∙ c.in-At.is)
 

@@ -1,10 +1,5 @@
-use Prim.Native.Nat.{◌-◌}
-use mathlib.Core.Path.{◌≡◌, sym, ap, ◌∙◌}
-use native.Mathlib.Omega.{arith}
-use Rattle.text.specs.Text.{edge_row}
-use Rattle.text.specs.Text.Parts.{end_from}
-use Rattle.text.specs.Text.Slots.{Slot, end_start, end_out, end_stop, end_step, slot_start, slot_out, slot_stop, slot_step, edge_told}
-use borrow.Author.Rules.{rules}
+use mathlib.Core.Path.{sym, ◌∙◌}
+use Rattle.text.specs.Text.Slots.{end_start, end_out, end_stop, end_step, slot_start, slot_out, slot_stop, slot_step, edge_told}
 use Rattle.text.proofs.read_edges.Goals as goal
 
 pub loop-i-init : goal.loop-i-init

@@ -1,10 +1,8 @@
 use Prim.Native.Nat.{◌-◌}
-use mathlib.Core.Path.{◌≡◌, sym, ap, ◌∙◌}
-use native.Mathlib.Omega.{arith}
+use mathlib.Core.Path.{◌≡◌}
 use Rattle.text.specs.Text.{edge_row}
 use Rattle.text.specs.Text.Parts.{end_from}
-use Rattle.text.specs.Text.Slots.{Slot, end_start, end_out, end_stop, end_step, slot_start, slot_out, slot_stop, slot_step, edge_told}
-use borrow.Author.Rules.{rules}
+use Rattle.text.specs.Text.Slots.{Slot}
 use Rattle.text.proofs.read_edges.Given as goal
 
 -- The rows from i on, read from p, end where all of them do, and each slice is on its way to what all of them say.

@@ -5,13 +5,11 @@ use native.Mathlib.Omega.{arith}
 use Rattle.handover.specs.Handover.{Lent, lent_of, Room}
 use Rattle.text.specs.Text.{text_at, on_meaning, reading_from, refuses}
 use Rattle.text.specs.Text.Laws.{sizes_refused, sizes_fit, tells_by}
-use borrow.Author.Rules.{rules}
 use Rattle.text.proofs.read_from.Goals.{In_default}
 use Rattle.text.proofs.read_from.Goals as goal
 
 -- what is known once the lengths were accepted
 module _ (c : In_default) where
-
   abbrev lent : Lent
   lent = lent_of c.args.kinds.now c.args.checks.now c.args.privileged.now c.args.entries.now c.args.grants.now c.args.froms.now c.args.tos.now c.args.ways.now
 

@@ -1,17 +1,13 @@
 use Rattle.records.specs.declared.NodeRow.{NodeRow}
 use Rattle.records.specs.Records.{node_at}
-use Prim.Native.Nat.{◌-◌}
-use mathlib.Core.Path.{◌≡◌, sym, ap, ◌∙◌}
-use native.Mathlib.Omega.{arith}
-use Rattle.text.specs.Text.Parts.{end_from, kept_row}
-use Rattle.text.specs.Text.Slots.{Slot, end_start, end_out, end_stop, end_step, slot_start, slot_out, slot_stop, slot_step, node_row, node_told}
-use borrow.Author.Rules.{rules}
+use mathlib.Core.Path.{◌≡◌, sym, ◌∙◌}
+use Rattle.text.specs.Text.Parts.{kept_row}
+use Rattle.text.specs.Text.Slots.{end_start, end_out, end_stop, end_step, slot_start, slot_out, slot_stop, slot_step, node_row, node_told}
 use Rattle.text.proofs.read_nodes.Goals.{After-read_node}
 use Rattle.text.proofs.read_nodes.Goals as goal
 
 -- the row that was read
 module _ (c : After-read_node) where
-
   row : {y : NodeRow} → c.read_node.result ≡ y → kept_row c.args.s.now c.loop-i.p c.loop-i.i ≡ node_row y
   row e = node_told (node_at c.args.s.now c.loop-i.p c.loop-i.i) (sym c.read_node.ensures ∙ e)
 

@@ -1,11 +1,7 @@
-use Rattle.records.specs.declared.NodeRow.{NodeRow}
-use Rattle.records.specs.Records.{node_at}
 use Prim.Native.Nat.{◌-◌}
-use mathlib.Core.Path.{◌≡◌, sym, ap, ◌∙◌}
-use native.Mathlib.Omega.{arith}
+use mathlib.Core.Path.{◌≡◌}
 use Rattle.text.specs.Text.Parts.{end_from, kept_row}
-use Rattle.text.specs.Text.Slots.{Slot, end_start, end_out, end_stop, end_step, slot_start, slot_out, slot_stop, slot_step, node_row, node_told}
-use borrow.Author.Rules.{rules}
+use Rattle.text.specs.Text.Slots.{Slot}
 use Rattle.text.proofs.read_nodes.Given as goal
 
 -- The rows from i on, read from p, end where all of them do, and each slice is on its way to what all of them say.

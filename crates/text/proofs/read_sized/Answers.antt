@@ -1,8 +1,7 @@
 -- The text is parsed into arrays of this function's own, so that the lent slices are as they were until the graph is handed over.
 use mathlib.Core.Path.{refl, sym}
-use Rattle.handover.specs.Handover.{Lent, lent_of, Room}
+use Rattle.handover.specs.Handover.{lent_of, Room}
 use Rattle.text.specs.Text.Laws.{wrong_tells, counted_tells, counted_room}
-use borrow.Author.Rules.{rules}
 use Rattle.text.proofs.read_sized.Goals.{In-Counted}
 use Rattle.text.proofs.read_sized.Goals as goal
 

@@ -1,7 +1,6 @@
 use mathlib.Core.Path.{sym, ap}
 use Rattle.graph.specs.declared.Judged.{Judged}
 use Rattle.text.specs.Text.Parts.{told}
-use borrow.Author.Rules.{rules}
 use Rattle.text.proofs.tell.Goals as goal
 
 pub returns-in-Accepted : goal.returns-in-Accepted

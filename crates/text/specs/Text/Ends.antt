@@ -1,6 +1,6 @@
 -- How a text's meaning follows from where its rows end.
-use Prim.Native.Nat.{ℕ, zero, suc, ◌+◌, ◌≤◌, ◌<◌}
-use Rattle.std.specs.Prelude.{◌≡◌, Bool, true, false, List, [], ◌∷◌, length, ltb}
+use Prim.Native.Nat.{ℕ, zero, suc, ◌+◌}
+use Rattle.std.specs.Prelude.{◌≡◌, true, false, List, ◌∷◌, length, ltb}
 use Rattle.std.proofs.Math.Path.{refl, sym, ap, subst}
 use Rattle.std.proofs.Common.{◌∙◌, arith, ltb-true, ltb-false}
 use Rattle.truth.specs.Truth.Bools.{by_split}
@@ -15,8 +15,8 @@ use Rattle.handover.specs.Handover.{Lent, NodesWritten}
 use Rattle.extent.specs.declared.Ran.{Ran}
 use Rattle.extent.specs.declared.Ran.TheVariants.{Past, Stop}
 use Rattle.extent.specs.declared.Parsed.{Parsed}
-use Rattle.extent.specs.declared.Parsed.TheVariants.{Counted, Wrong}
-use Rattle.text.specs.Text.{Rows, rows, stop, onto, rows_at, edge_row, says, wrong, text_at, node_columns, Stores}
+use Rattle.extent.specs.declared.Parsed.TheVariants.{Wrong}
+use Rattle.text.specs.Text.{rows, stop, onto, rows_at, edge_row, says, wrong, text_at, node_columns, Stores}
 use Rattle.text.specs.Text.Kept.{kept_all}
 use Rattle.text.specs.Text.Parts.{rows_from, end_from, kept_row, tail_of, NodesRead, TailRead, Parses, counted, faulty}
 

@@ -1,6 +1,6 @@
 -- What the parts of the reader say.
-use Rattle.std.specs.Prelude.{ℕ, zero, suc, ◌+◌, ◌≤◌, ◌<◌, ◌≡◌, List, [], ◌∷◌, map, cond, length, ltb}
-use Rattle.graph.specs.Graph.{PerNode, PerEdge, EachNode, EachEdge, Ranges, NodesLong, EdgesLong}
+use Rattle.std.specs.Prelude.{ℕ, zero, suc, ◌+◌, ◌≤◌, ◌≡◌, List, [], ◌∷◌, length}
+use Rattle.graph.specs.Graph.{PerNode, PerEdge, EachNode, EachEdge, Ranges}
 use Rattle.graph.specs.declared.Judged.{Judged}
 use Rattle.graph.specs.declared.Judged.TheVariants as judged
 use Rattle.records.specs.declared.Node.{Node}

@@ -1,5 +1,5 @@
 -- What reading the rows i to n from position p on answers and stores, by the row at p: once for every kind of row and every slice.
-use Rattle.std.specs.Prelude.{ℕ, zero, suc, ◌+◌, ◌-◌, ◌≤◌, ◌<◌, ◌≡◌, List, [], ◌∷◌, map, set}
+use Rattle.std.specs.Prelude.{ℕ, suc, ◌+◌, ◌-◌, ◌≤◌, ◌<◌, ◌≡◌, List, map, set}
 use Rattle.std.proofs.Math.Path.{sym}
 use Rattle.std.proofs.Common.{ap, ◌∙◌, add-one, sub-eq-zero_of_le, arith}
 use Rattle.std.proofs.Math.Nat.{sub-zero}
@@ -11,7 +11,6 @@ use Rattle.records.specs.declared.Edge.{Edge}
 use Rattle.records.specs.declared.EdgeRow.{EdgeRow}
 use Rattle.records.specs.declared.EdgeRow.TheVariants as edge
 use Rattle.records.specs.Records.{Got, got, no, on_got, kept, node_row_of, edge_row_of}
-use Rattle.extent.specs.declared.Ran.{Ran}
 use Rattle.extent.specs.declared.Ran.TheVariants.{Past, Stop}
 use Rattle.text.specs.Text.Parts.{rows_from, end_from}
 

@@ -5,7 +5,6 @@ pub mod Arrivals
 pub mod Edges
 pub mod Rule
 pub mod Code
-pub mod Solutions
 pub mod Growth
 pub mod Rounds
 pub mod Results
@@ -244,7 +243,7 @@ every_arrival g n f = (entry g n ⇒ f mark) && every g.size.m (λ e. eqb (to g 
 -- in the set of node n or edge e.
 
 -- in(n): MAY joins the out sets of all that arrives (nothing: empty). SURE takes their common part (nothing: all K).
-pub in_set : Graph → System → Outs → ℕ → ℕ → Bool
+unfoldable pub in_set : Graph → System → Outs → ℕ → ℕ → Bool
 in_set g may x n p = some_arrival g n (λ a. arriving g x n a p)
 in_set g sure x n p = every_arrival g n (λ a. arriving g x n a p)
 
@@ -257,7 +256,7 @@ call_set g y x n p = call_rule g n p (in_set g y x n p)
 
 -- Past an unprivileged check n of q only what arrives with q in its MAY out set counts. Nothing: empty, in both systems. Otherwise MAY
 -- joins their MAY out sets; SURE takes the common part of their SURE out sets and adds q.
-pub past_set : Graph → Outs → System → Outs → ℕ → ℕ → Bool
+unfoldable pub past_set : Graph → Outs → System → Outs → ℕ → ℕ → Bool
 past_set g w may x n p = some_arrival g n (λ a. arriving g w n a (check g n) && arriving g x n a p)
 past_set g w sure x n p =
     some_arrival g n (λ a. arriving g w n a (check g n))

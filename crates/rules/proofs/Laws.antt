@@ -6,7 +6,7 @@ use Rattle.truth.specs.Truth.{Says}
 use Rattle.truth.specs.Truth.Bools.{clash}
 use Rattle.truth.specs.Truth.Tests.{says_by}
 use Rattle.sets.specs.Sets.{has, all, within}
-use Rattle.sets.specs.Sets.Order.{within_all}
+use Rattle.sets.proofs.Sets.Order.{within_all}
 
 -- a set within all k has its members below k
 pub within_says : (k s : ℕ) {a : ℕ} {b : Bool} → s < 2 ^ 64 → a ≡ all k → b ≡ within s a → Says ((p : ℕ) → has s p ≡ true → p < k) b

@@ -4,7 +4,7 @@
 ghost use Rattle.std.specs.Prelude.{◌≡◌};
 ghost use Rattle.sets.specs.Sets.{empty, all, join, common, without, add, within, has, same};
 
-#[derive(Drop)]
+#[derive(Clone, Copy)]
 pub struct Set {
     // Permission p is a member where binary digit p is 1.
     pub bits: u64,

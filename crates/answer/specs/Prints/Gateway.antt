@@ -7,7 +7,8 @@ use Rattle.sets.specs.Sets.Members.{below_members}
 use Rattle.sets.specs.Sets.Code.{has_code}
 use Rattle.graph.specs.Graph.{Graph, Content}
 use Rattle.graph.specs.Graph.Code.{verdict_code}
-use Rattle.graph.specs.Graph.Gateway.{gateway, gateway_slices, gateway_accepted, gateway_content}
+use Rattle.graph.specs.Graph.Gateway.{gateway, gateway_slices}
+use Rattle.graph.proofs.Graph.Gateway.{gateway_accepted, gateway_content}
 use Rattle.graph.specs.Judge.{judge, Judges}
 use Rattle.graph.specs.Judge.Laws.{judges_judge}
 use Rattle.graph.specs.declared.Judged.{Judged}

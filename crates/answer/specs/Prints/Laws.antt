@@ -8,7 +8,7 @@ use Rattle.truth.specs.Truth.Bools.{by_split}
 use Rattle.truth.specs.Truth.Tests.{says_true}
 use Rattle.truth.specs.Truth.Kit.{take_sets}
 use Rattle.graph.specs.Graph.{Graph, size_of, Acceptable, Slices, Content}
-use Rattle.graph.specs.Graph.Results.{content_one, content_exists}
+use Rattle.graph.proofs.Graph.Results.{content_one, content_exists}
 use Rattle.graph.specs.Refusals.{Numbered, ◌at◌}
 use Rattle.graph.specs.declared.Size.{Size}
 use Rattle.graph.specs.declared.Refusal.{Refusal}

@@ -10,11 +10,11 @@ use Rattle.truth.specs.Truth.Bools.{clash, same_bool, both, right, either}
 use Rattle.sets.specs.Sets.{has}
 use Rattle.graph.specs.Graph.{out_rule, Graph, is_check, check, entry, from, System, may, sure, Arrival, arriving, in_set, past_set, out_set, Within, held}
 use Rattle.graph.specs.Graph.Arrivals.{Arrives, by_mark, by_edge, arriving_mark, arriving_edge}
-use Rattle.graph.specs.Graph.Edges.{in_may, in_sure, past_may, past_sure}
+use Rattle.graph.proofs.Graph.Edges.{in_may, in_sure, past_may, past_sure}
 use Rattle.graph.specs.Graph.Rules.{from_low, check_low}
 use Rattle.graph.specs.Graph.Rule.{out_by_rule, out_rule_mono}
 use Rattle.graph.specs.Graph.Rounds.{LeastClosed, GreatestBacked}
-use Rattle.graph.specs.Graph.Solutions.{sure_mono}
+use Rattle.graph.proofs.Graph.Solutions.{sure_mono}
 use Rattle.flow.specs.Walk.{past_num, judged_num, carried, to_of, Setting, Good, Quiet}
 use Rattle.flow.specs.Walk.Sums.{has_carried, carried_toward, has_past_sure}
 

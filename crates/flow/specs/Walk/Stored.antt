@@ -7,7 +7,7 @@ use Rattle.sets.specs.Sets.Members.{has_all, has_without, below_members}
 use Rattle.sets.specs.Sets.Order.{all_lt, without_lt}
 use Rattle.graph.specs.Graph.{call_rule, Graph, Acceptable, System, may, sure, call_set, held, Stored, Content}
 use Rattle.graph.specs.Graph.Rule.{call_by_rule}
-use Rattle.graph.specs.Graph.Rounds.{least_closed, greatest_backed}
+use Rattle.graph.proofs.Graph.Rounds.{least_closed, greatest_backed}
 use Rattle.graph.specs.Graph.Code.{denied_code, granted_code}
 use Rattle.flow.specs.Walk.{call_num, called_by, carried, NodesStored}
 use Rattle.flow.specs.Walk.Settled.{Settled, may_settled, may_ins, sure_settled, sure_ins}

@@ -13,7 +13,7 @@ use Rattle.sets.specs.Sets.{has, empty, common}
 use Rattle.sets.specs.Sets.Members.{has_common, has_empty, has_add, below_members, has_join}
 use Rattle.graph.specs.Graph.{call_rule, trans_rule, out_rule, Graph, is_check, check, privileged, grants, from, to, is_call, Acceptable, System, may, sure, Outs, mark, edge, arriving, in_set, past_set, held}
 use Rattle.graph.specs.Graph.Arrivals.{Arrives, by_mark, by_edge, arriving_mark, arriving_edge}
-use Rattle.graph.specs.Graph.Edges.{in_may, in_sure, past_may, past_sure}
+use Rattle.graph.proofs.Graph.Edges.{in_may, in_sure, past_may, past_sure}
 use Rattle.graph.specs.Graph.Rules.{from_low, check_low}
 use Rattle.graph.specs.Graph.Rule.{out_by_rule, out_rule_mono}
 use Rattle.graph.specs.Graph.Code.{privileged_code}

@@ -42,15 +42,6 @@ module _ (g : Graph) (n : ℕ) (f : Arrival → Bool) where
   arrives_every t a (by_edge e h q) =
       given (eqb (to g e) n) (f (edge e)) (every_elim g.size.m (λ e. eqb (to g e) n ⇒ f (edge e)) (right (entry g n ⇒ f mark) _ t) e h) (eq-eqb (to g e) n q)
 
-module _ (g : Graph) (n : ℕ) (f f' : Arrival → Bool) (h : (a : Arrival) → Arrives g n a → f a ≡ true → f' a ≡ true) where
-  pub some_mono : some_arrival g n f ≡ true → some_arrival g n f' ≡ true
-  some_mono t =
-      let r = arrives_some g n f t in
-      some_arrives g n f' r.0 r.1 (h r.0 r.1 r.2)
-
-  pub every_mono : every_arrival g n f ≡ true → every_arrival g n f' ≡ true
-  every_mono t = every_arrives g n f' (λ a q. h a q (arrives_every g n f t a q))
-
 -- what the out set of an arrival is
 pub arriving_mark : (g : Graph) (x : Outs) (n p : ℕ) → arriving g x n mark p ≡ grants g n p
 unfolding arriving

@@ -4,9 +4,9 @@ use Rattle.std.specs.Prelude.{ℕ, zero, suc, ◌≡◌, refl, List, [], ◌∷�
 use Rattle.truth.specs.Truth.{first, some, every}
 use Rattle.sets.specs.Sets.Code.{has_code}
 use Rattle.sets.specs.Sets.Pack.{pack}
-use Rattle.graph.specs.Graph.{out_rule, trans_rule, call_rule, privileged_by, Graph, graph_of, size_of, may, arriving, some_arrival, every_arrival, in_set, call_set, past_set, out_set, denied_set, granted_set, Slices, Content, held}
+use Rattle.graph.specs.Graph.{out_rule, trans_rule, call_rule, privileged_by, Graph, graph_of, size_of, may, arriving, some_arrival, every_arrival, in_set, call_set, past_set, out_set, denied_set, granted_set, Slices, held}
 use Rattle.graph.specs.Graph.Rounds.{sheet, written, rounds, may_rounds}
-use Rattle.graph.specs.Graph.Tables.{Computed, computed_one}
+use Rattle.graph.specs.Graph.Tables.{Computed}
 use Rattle.graph.specs.Judge.{shape_test, node_test, edge_test, no_entry, judge}
 
 abbrev pub backwards : Graph
@@ -24,12 +24,9 @@ backwards =
 abbrev pub backwards_slices : Slices
 backwards_slices = record { denied = 0 ∷ 0 ∷ 0 ∷ []; granted = 1 ∷ 1 ∷ 1 ∷ []; may_out = 1 ∷ 1 ∷ []; sure_out = 1 ∷ 1 ∷ [] }
 
-computed : Computed backwards backwards_slices 2 0
+pub computed : Computed backwards backwards_slices 2 0
 unfolding judge shape_test node_test edge_test no_entry first rounds written sheet pack some every some_arrival every_arrival privileged_by arriving in_set call_set past_set out_set denied_set granted_set call_rule out_rule trans_rule
 computed = record { accepted = refl; sets = simp has_code }
-
-pub backwards_one : {s : Slices} → Content backwards s → s ≡ backwards_slices
-backwards_one = computed_one backwards backwards_slices 2 0 computed
 
 -- MAY's out sets after one pass in place: each edge's is worked out from those that stand there
 unfoldable pub pass_from : Graph → (left e : ℕ) → List ℕ → List ℕ

@@ -3,9 +3,9 @@ use Rattle.std.specs.Prelude.{◌≡◌, refl, [], ◌∷◌}
 use Rattle.truth.specs.Truth.{first, some, every}
 use Rattle.sets.specs.Sets.Code.{has_code}
 use Rattle.sets.specs.Sets.Pack.{pack}
-use Rattle.graph.specs.Graph.{out_rule, trans_rule, call_rule, privileged_by, Graph, graph_of, size_of, Acceptable, arriving, some_arrival, every_arrival, in_set, call_set, past_set, out_set, denied_set, granted_set, Slices, Content}
+use Rattle.graph.specs.Graph.{out_rule, trans_rule, call_rule, privileged_by, Graph, graph_of, size_of, arriving, some_arrival, every_arrival, in_set, call_set, past_set, out_set, denied_set, granted_set, Slices}
 use Rattle.graph.specs.Graph.Rounds.{sheet, written, rounds, may_rounds}
-use Rattle.graph.specs.Graph.Tables.{Computed, computed_accepted, computed_content, computed_one}
+use Rattle.graph.specs.Graph.Tables.{Computed}
 use Rattle.graph.specs.Judge.{shape_test, node_test, edge_test, no_entry, judge}
 
 abbrev pub gateway : Graph
@@ -29,18 +29,9 @@ gateway_slices = record {
   sure_out = 3 ∷ 2 ∷ 3 ∷ 2 ∷ 3 ∷ 3 ∷ 2 ∷ 2 ∷ [];
 }
 
-computed : Computed gateway gateway_slices 3 3
+pub computed : Computed gateway gateway_slices 3 3
 unfolding judge shape_test node_test edge_test no_entry first rounds written sheet pack some every some_arrival every_arrival privileged_by arriving in_set call_set past_set out_set denied_set granted_set call_rule out_rule trans_rule
 computed = record { accepted = refl; sets = simp has_code }
-
-pub gateway_accepted : Acceptable gateway
-gateway_accepted = computed_accepted gateway gateway_slices 3 3 computed
-
-pub gateway_content : Content gateway gateway_slices
-gateway_content = computed_content gateway gateway_slices 3 3 computed
-
-pub gateway_one : {s : Slices} → Content gateway s → s ≡ gateway_slices
-gateway_one = computed_one gateway gateway_slices 3 3 computed
 
 -- after a single round MAY is not there yet
 pub gateway_one_round : may_rounds gateway 1 ≡ 3 ∷ 2 ∷ 0 ∷ 2 ∷ 3 ∷ 0 ∷ 0 ∷ 2 ∷ []

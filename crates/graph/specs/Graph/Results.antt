@@ -1,11 +1,10 @@
--- What the solver stores for an accepted graph exists, and is one.
-use Rattle.std.specs.Prelude.{ℕ, zero, suc, ◌<◌, ◌≡◌, List, Bool, true, false, get_or}
-use Rattle.std.proofs.Common.{sym, ◌∙◌, ap, ext_get_or}
+-- Stored sets: that those which agree are one, and that what is written down is stored. `Graph/Results` of proofs/ has the content of an accepted graph.
+use Rattle.std.specs.Prelude.{ℕ, zero, suc, ◌<◌, ◌≡◌, List, Bool, get_or}
+use Rattle.std.proofs.Common.{sym, ◌∙◌, ext_get_or}
 use Rattle.sets.specs.Sets.Members.{same_below, below_members}
 use Rattle.sets.specs.Sets.Pack.{pack, pack_lt}
-use Rattle.graph.specs.Graph.{Graph, Acceptable, may, sure, Outs, out_set, GreatestSure, denied_set, granted_set, Slices, held, Stored, Content}
-use Rattle.graph.specs.Graph.Solutions.{may_one, sure_one}
-use Rattle.graph.specs.Graph.Rounds.{length_sheet, get_d_sheet, written, held_written, rounds, may_rounds, sure_rounds, LeastClosed, GreatestBacked, least_closed, greatest_backed, may_rests, sure_rests, may_at_rest, sure_at_rest}
+use Rattle.graph.specs.Graph.{Graph, Outs, denied_set, granted_set, Slices, held, Stored}
+use Rattle.graph.specs.Graph.Rounds.{length_sheet, get_d_sheet, written, rounds}
 
 -- ---- one content
 
@@ -17,28 +16,6 @@ stored_one k n l l' a b h =
     let j : i < n = rw a.long at u in
     same_below k (get_or l i 0) (get_or l' i 0) ((below_members k (get_or l i 0)).1 (λ p. a.below i p j)) ((below_members k (get_or l' i 0)).1 (λ p. b.below i p j)) (λ p q. h i p j q))
 
-module _ (g : Graph) {s t : Slices} (a : Content g s) (b : Content g t) where
-  may_same : s.may_out ≡ t.may_out
-  may_same = stored_one g.size.k g.size.m s.may_out t.may_out a.may_stored b.may_stored (may_one g (held s.may_out) (held t.may_out) a.least b.least)
-
-  sure_same : s.sure_out ≡ t.sure_out
-  sure_same =
-      let c : GreatestSure g (held s.may_out) (held t.sure_out) = rw (sym may_same) at b.greatest in
-      stored_one g.size.k g.size.m s.sure_out t.sure_out a.sure_stored b.sure_stored (sure_one g (held s.may_out) (held s.sure_out) (held t.sure_out) a.greatest c)
-
-  denied_same : s.denied ≡ t.denied
-  denied_same =
-      stored_one g.size.k g.size.n s.denied t.denied a.denied_stored b.denied_stored
-      (λ n p l k. a.denies n p l k ∙ ap (λ (x : List ℕ). denied_set g (held x) n p) may_same ∙ sym (b.denies n p l k))
-
-  granted_same : s.granted ≡ t.granted
-  granted_same =
-      stored_one g.size.k g.size.n s.granted t.granted a.granted_stored b.granted_stored
-      (λ n p l k. a.grants n p l k ∙ ap (λ (x : List ℕ). granted_set g (held x) n p) sure_same ∙ sym (b.grants n p l k))
-
-  pub content_one : s ≡ t
-  content_one = λ i. record { denied = denied_same i; granted = granted_same i; may_out = may_same i; sure_out = sure_same i }
-
 -- ---- a content
 
 pub stored_written : (k n : ℕ) (x : ℕ → ℕ → Bool) → Stored k n (written k n x)
@@ -48,7 +25,7 @@ stored_written k n x = record {
   below = λ i p l t. (below_members k (pack k (x i))).0 (pack_lt k (x i)) p (rw (get_d_sheet n (λ i. pack k (x i)) i l) at t);
 }
 
-stored_rounds : (g : Graph) (f : Outs → Outs) (b : Bool) (j : ℕ) → Stored g.size.k g.size.m (rounds g f b j)
+pub stored_rounds : (g : Graph) (f : Outs → Outs) (b : Bool) (j : ℕ) → Stored g.size.k g.size.m (rounds g f b j)
 unfolding rounds
 stored_rounds g f b zero = stored_written g.size.k g.size.m (λ _ _. b)
 stored_rounds g f b (suc j) = stored_written g.size.k g.size.m (f (held (rounds g f b j)))
@@ -61,29 +38,3 @@ slices_of g m s = record {
   may_out = m;
   sure_out = s;
 }
-
-module _ (g : Graph) (acc : Acceptable g) where
-  pub content_of : (m s : List ℕ) → Stored g.size.k g.size.m m → Stored g.size.k g.size.m s → LeastClosed g (held m) → GreatestBacked g (held m) (held s) → Content g (slices_of g m s)
-  content_of m s hm hs lm gs = record {
-    denied_stored = stored_written g.size.k g.size.n (denied_set g (held m));
-    granted_stored = stored_written g.size.k g.size.n (granted_set g (held s));
-    may_stored = hm;
-    sure_stored = hs;
-    least = (least_closed g acc (held m)).1 lm;
-    greatest = (greatest_backed g (held m) (held s)).1 gs;
-    denies = held_written g.size.k g.size.n (denied_set g (held m));
-    grants = held_written g.size.k g.size.n (granted_set g (held s));
-  }
-
-  -- rounds that are at rest give it
-  pub content_by_rounds : (i j : ℕ) → may_rounds g (suc i) ≡ may_rounds g i → sure_rounds g (held (may_rounds g i)) (suc j) ≡ sure_rounds g (held (may_rounds g i)) j
-      → Content g (slices_of g (may_rounds g i) (sure_rounds g (held (may_rounds g i)) j))
-  content_by_rounds i j r q =
-      content_of (may_rounds g i) (sure_rounds g (held (may_rounds g i)) j) (stored_rounds g (λ x. out_set g x may x) false i) (stored_rounds g (out_set g (held (may_rounds g i)) sure) true j)
-      (may_at_rest g acc i r) (sure_at_rest g (held (may_rounds g i)) j q)
-
-  pub content_exists : (s : Slices) × Content g s
-  content_exists =
-      let r = may_rests g acc in
-      let q = sure_rests g (held (may_rounds g r.0)) in
-      (slices_of g (may_rounds g r.0) (sure_rounds g (held (may_rounds g r.0)) q.0), content_by_rounds r.0 q.0 r.2 q.2)

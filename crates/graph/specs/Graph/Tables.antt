@@ -1,9 +1,8 @@
--- The content of a written graph's slices, by computing: what a table has to show, and what it then says of every content.
+-- The content of a written graph's slices, by computing: what a table has to show. `Graph/Tables` of proofs/ has what it then says of every content.
 use Rattle.std.specs.Prelude.{ℕ, suc, ◌≡◌, List, [], ◌∷◌, get_or}
-use Rattle.std.proofs.Common.{sym, ◌∙◌, ap}
-use Rattle.graph.specs.Graph.{Graph, Acceptable, denied_set, granted_set, Slices, held, Content}
+use Rattle.std.proofs.Common.{ap}
+use Rattle.graph.specs.Graph.{Graph, Acceptable, denied_set, granted_set, Slices, held}
 use Rattle.graph.specs.Graph.Rounds.{written, may_rounds, sure_rounds}
-use Rattle.graph.specs.Graph.Results.{slices_of, content_one, content_by_rounds}
 use Rattle.graph.specs.Judge.{judge}
 use Rattle.graph.specs.Judge.Laws.{judge_judges, accepted_is}
 use Rattle.graph.specs.declared.Judged.TheVariants.{Accepted}
@@ -26,20 +25,5 @@ module _ (g : Graph) (s : Slices) (i j : ℕ) (c : Computed g s i j) where
   pub computed_accepted : Acceptable g
   computed_accepted = accepted_is (rw c.accepted at (judge_judges g))
 
-  nth : (n : ℕ) → get_or (computed_sets g s i j) n [] ≡ get_or (stored_sets s) n []
+  pub nth : (n : ℕ) → get_or (computed_sets g s i j) n [] ≡ get_or (stored_sets s) n []
   nth n = ap (λ (l : List (List ℕ)). get_or l n []) c.sets
-
-  pub computed_content : Content g s
-  computed_content = rw whole at (content_by_rounds g computed_accepted i j (nth 1 ∙ sym (nth 0)) (rw (nth 0) (nth 3 ∙ sym (nth 2))))
-    where
-      may_whole : slices_of g (may_rounds g i) (sure_rounds g (held (may_rounds g i)) j) ≡ slices_of g s.may_out (sure_rounds g (held s.may_out) j)
-      may_whole = ap (λ (l : List ℕ). slices_of g l (sure_rounds g (held l) j)) (nth 0)
-
-      whole : slices_of g (may_rounds g i) (sure_rounds g (held (may_rounds g i)) j) ≡ s
-      whole =
-          may_whole ∙ ap (λ (l : List ℕ). slices_of g s.may_out l) (nth 2)
-          ∙ λ i. record { denied = nth 4 i; granted = nth 5 i; may_out = s.may_out; sure_out = s.sure_out }
-
-  -- whatever a solver may store for g, it is s
-  pub computed_one : {t : Slices} → Content g t → t ≡ s
-  computed_one h = content_one g h computed_content

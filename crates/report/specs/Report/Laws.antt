@@ -2,7 +2,7 @@
 use Rattle.std.specs.Prelude.{ℕ, ◌≡◌, refl, List, length}
 use Rattle.std.proofs.Common.{ap, subst}
 use Rattle.graph.specs.Graph.{Graph, Ranges, Acceptable, Slices, Content}
-use Rattle.graph.specs.Graph.Results.{content_one}
+use Rattle.graph.proofs.Graph.Results.{content_one}
 use Rattle.graph.specs.Judge.{Refuses, Judges}
 use Rattle.graph.specs.Judge.Laws.{refuses_not, judges_one}
 use Rattle.graph.specs.Refusals.{Numbered}

@@ -13,7 +13,7 @@ use Rattle.truth.specs.Truth.Bools.{same_bool, by_split, clash, both, right, eit
 use Rattle.sets.specs.Sets.{has}
 use Rattle.graph.specs.Graph.{Graph, Acceptable, System, may, sure, Arrival, arriving, in_set, past_set, out_set, is_check, check, from, held}
 use Rattle.graph.specs.Graph.Arrivals.{Arrives, by_mark, by_edge, arriving_mark, arriving_edge}
-use Rattle.graph.specs.Graph.Edges.{in_may, in_sure, past_may, past_sure}
+use Rattle.graph.proofs.Graph.Edges.{in_may, in_sure, past_may, past_sure}
 use Rattle.graph.specs.Graph.Rule.{out_by_rule, out_rule_mono}
 use Rattle.graph.specs.Graph.Rules.{from_low, check_low}
 use Rattle.flow.specs.Walk.{merge, past_num, judged_num, carried, AnyPasses, into, counts, Toward, PastBelow, Begun, to_of}

@@ -1,6 +1,6 @@
 -- Sets by inclusion, their bounds as numbers, and the number of a set as a measure.
 use Rattle.std.specs.Prelude.{◌≡◌, refl, Bool, true, false, ◌&&◌, ◌↔◌, ℕ, ◌^◌, ◌≤◌, ◌<◌, min}
-use Rattle.std.proofs.Common.{sym, ap, ◌∙◌, ⊎_elim, lt_of_lt_of_le, lt_of_le_of_lt, arith, pow_pos, pow_mono, lt-ltb, le-ltb, ltb-true, eq-eqb, eqb-true}
+use Rattle.std.proofs.Common.{sym, ap, ◌∙◌, ⊎_elim, lt_of_lt_of_le, lt_of_le_of_lt, arith, pow_pos, pow_mono, lt-ltb, le-ltb, eq-eqb, eqb-true}
 use Rattle.std.proofs.Math.Bool.{or_assoc}
 use Rattle.std.proofs.Math.Decide.{dec_lt}
 use Rattle.std.proofs.Math.Pow.{pow-lt, ones_lt}
@@ -9,7 +9,7 @@ use Rattle.std.proofs.lemmas.Nat.{and_le_l, and_le_r, or_lt, xor_lt, and_comm}
 use Rattle.std.proofs.lemmas.Bool.{eqb-false}
 use Rattle.truth.specs.Truth.Bools.{by_split, clash, same_bool, both, left, right, either, or_left, or_right}
 use Rattle.sets.specs.Sets.{has, empty, all, join, common, without, add, within, same}
-use Rattle.sets.specs.Sets.Members.{has_join, has_common, has_empty, has_all, same_members, below_members}
+use Rattle.sets.specs.Sets.Members.{has_join, has_common, has_empty, same_members}
 
 -- ---- inclusion
 
@@ -36,13 +36,6 @@ within_antisym a b u v = same_members a b (λ p. same_bool (has a p) (has b p) (
 
 pub empty_within : (a : ℕ) → within empty a ≡ true
 empty_within a = (within_members empty a).1 (λ p h. clash h (has_empty p))
-
--- to lie within all k is to have no member at k or above, for a set of 64
-pub within_all : (k a : ℕ) → a < 2 ^ 64 → (within a (all k) ≡ true) ↔ ((p : ℕ) → has a p ≡ true → p < k)
-within_all k a h = (
-  (λ w p t. let l = ltb-true p (min k 64) (sym (has_all k p) ∙ (within_members a (all k)).0 w p t) in omega arith),
-  λ f. (within_members a (all k)).1 (λ p t. has_all k p ∙ lt-ltb p (min k 64) (omega (arith, f p t, (below_members 64 a).0 h p t))),
-)
 
 pub join_left : (a b : ℕ) → within a (join a b) ≡ true
 join_left a b = (within_members a (join a b)).1 (λ p h. has_join a b p ∙ or_left (has b p) h)

@@ -3,8 +3,10 @@
 use Rattle.std.specs.Prelude.{ℕ, ◌≡◌, refl, List, [], ◌∷◌, get_or}
 use Rattle.std.proofs.Common.{sym, ◌∙◌, ap, arith}
 use Rattle.graph.specs.Graph.{Slices}
-use Rattle.graph.specs.Graph.Gateway.{gateway, gateway_slices, gateway_accepted, gateway_one, gateway_one_round}
-use Rattle.graph.specs.Graph.Backwards.{backwards, backwards_one, one_pass, backwards_one_pass}
+use Rattle.graph.specs.Graph.Gateway.{gateway, gateway_slices, gateway_one_round}
+use Rattle.graph.proofs.Graph.Gateway.{gateway_accepted, gateway_one}
+use Rattle.graph.specs.Graph.Backwards.{backwards, one_pass, backwards_one_pass}
+use Rattle.graph.proofs.Graph.Backwards.{backwards_one}
 use Rattle.graph.specs.Graph.Rounds.{may_rounds}
 use Rattle.graph.specs.Judge.Laws.{refuses_not}
 use Rattle.graph.specs.declared.Refusal.{Refusal}

@@ -2,7 +2,7 @@
 use Rattle.std.specs.Prelude.{◌≡◌, refl}
 use Rattle.std.proofs.Common.{ap}
 use Rattle.graph.specs.Graph.{Graph, Acceptable, Slices}
-use Rattle.graph.specs.Graph.Results.{content_one}
+use Rattle.graph.proofs.Graph.Results.{content_one}
 use Rattle.graph.specs.Refusals.{Numbered}
 use Rattle.graph.specs.Refusals.Laws.{numbered_one}
 use Rattle.graph.specs.Judge.Laws.{refuses_one, refuses_not}

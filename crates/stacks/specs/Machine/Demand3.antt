@@ -8,8 +8,9 @@ use Rattle.truth.specs.Truth.Bools.{by_split, clash}
 use Rattle.sets.specs.Sets.{has}
 use Rattle.graph.specs.Graph.{Graph, is_check, check, privileged, grants, Acceptable, may, sure, Outs, Arrival, arriving, in_set, call_set, LeastMay, GreatestSure, denied_set, granted_set, verdict_of, Slices, held, Content, Sound}
 use Rattle.graph.specs.Graph.Arrivals.{Arrives, by_mark, by_edge, arriving_mark, arriving_edge}
-use Rattle.graph.specs.Graph.Edges.{in_may, call_privileged, call_at_most}
-use Rattle.graph.specs.Graph.Rounds.{least_granted}
+use Rattle.graph.specs.Graph.Edges.{call_privileged, call_at_most}
+use Rattle.graph.proofs.Graph.Edges.{in_may}
+use Rattle.graph.proofs.Graph.Rounds.{least_granted}
 use Rattle.graph.specs.Graph.Rules.{check_low}
 use Rattle.graph.specs.Graph.Code.{denied_code, granted_code, verdict_code}
 use Rattle.stacks.specs.Machine.{rights_of, Inspected, full, quick, Reachable, Agrees}

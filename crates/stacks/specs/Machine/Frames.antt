@@ -6,7 +6,8 @@ use Rattle.std.proofs.Math.Decide.{ℕ_discrete}
 use Rattle.truth.specs.Truth.Bools.{by_split, both, left, right}
 use Rattle.graph.specs.Graph.{Graph, kind, is_check, check, privileged, entry, grants, to, Acceptable, may, sure, Outs, Arrival, mark, edge, arriving, in_set, call_set, out_set, Leads, Sound}
 use Rattle.graph.specs.Graph.Arrivals.{Arrives, by_mark, by_edge, arriving_mark, arriving_edge}
-use Rattle.graph.specs.Graph.Edges.{in_may, in_sure, call_privileged, call_at_least, call_at_most, past_may, past_sure, PastSure, call_edge, transfer_plain, transfer_privileged, transfer_past}
+use Rattle.graph.specs.Graph.Edges.{call_privileged, call_at_least, call_at_most, call_edge, transfer_plain, transfer_privileged, transfer_past}
+use Rattle.graph.proofs.Graph.Edges.{in_may, in_sure, past_may, past_sure, PastSure}
 use Rattle.graph.specs.Graph.Rules.{transfer_same, to_low, check_low}
 use Rattle.stacks.specs.Machine.{rights_of, Inspected, full, Step, enter, call, pass, back, Reachable, empty, then}
 use Rattle.stacks.specs.Machine.Inspections.{full_bottom, full_stops, full_below, full_grants}

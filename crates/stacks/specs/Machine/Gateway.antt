@@ -6,7 +6,8 @@ use Rattle.sets.specs.Sets.{has}
 use Rattle.sets.specs.Sets.Code.{has_code}
 use Rattle.graph.specs.Graph.{is_check, check, verdict_of, Slices, Content}
 use Rattle.graph.specs.Graph.Code.{privileged_code, verdict_code}
-use Rattle.graph.specs.Graph.Gateway.{gateway, gateway_slices, gateway_accepted, gateway_content, gateway_one}
+use Rattle.graph.specs.Graph.Gateway.{gateway, gateway_slices}
+use Rattle.graph.proofs.Graph.Gateway.{gateway_accepted, gateway_content, gateway_one}
 use Rattle.stacks.specs.Machine.{rights_of, Inspected, full, quick, Step, Reachable}
 use Rattle.stacks.specs.Machine.Demand3.{demand3}
 

@@ -5,7 +5,8 @@ use Rattle.truth.specs.Truth.Bools.{by_split, same_bool}
 use Rattle.graph.specs.Graph.{Graph, is_check, check, privileged, grants, from, to, Acceptable, System, may, sure, Outs, Arrival, arriving, in_set, past_set, out_set, Within, Same, LeastMay, GreatestSure}
 use Rattle.graph.specs.Graph.Rules.{check_low, from_low, ways_of, transfer_same}
 use Rattle.graph.specs.Graph.Arrivals.{Arrives, by_mark, by_edge, arriving_mark, arriving_edge}
-use Rattle.graph.specs.Graph.Edges.{in_may, in_sure, past_may, past_sure, call_edge, transfer_plain, transfer_privileged, transfer_past}
+use Rattle.graph.specs.Graph.Edges.{call_edge, transfer_plain, transfer_privileged, transfer_past}
+use Rattle.graph.proofs.Graph.Edges.{in_may, in_sure, past_may, past_sure}
 use Rattle.graph.specs.Graph.Rule.{out_by_rule, out_rule_mono}
 
 -- ---- both systems grow with their sets

@@ -14,7 +14,7 @@ use Rattle.verdict.specs.declared.Ruling.TheVariants as ruling
 use Rattle.machine.specs.declared.Inspection.{Inspection}
 use Rattle.machine.specs.declared.Inspection.TheVariants as answer
 use Rattle.stacks.specs.Machine.{rights_of, Inspected, stack_of, Reachable, Agrees, full}
-use Rattle.stacks.specs.Machine.Demand3.{demand3, always_passes, always_fails, never_reached, verdict_at_is}
+use Rattle.stacks.proofs.Machine.Demand3.{demand3, always_passes, always_fails, never_reached, verdict_at_is}
 use Rattle.machine.specs.Inspect.{SaysSo, passes, fails, FullAnswers, QuickAnswers}
 use Rattle.machine.specs.Inspect.Laws.{refusal_one, refusal_not}
 

@@ -2,12 +2,8 @@
 -- A node has two running sums: of all that arrives, in the list s, and of what arrives and passes its check, in the list q.
 pub mod Order
 pub mod Sent
-pub mod Sums
 pub mod Settled
 pub mod Left
-pub mod Steps
-pub mod Taken
-pub mod Stored
 use Rattle.std.specs.Prelude.{ℕ, zero, suc, ◌+◌, ◌-◌, ◌*◌, ◌≤◌, ◌<◌, ◌^◌, ◌≡◌, List, [], ◌∷◌, Bool, true, false, cond, ◌&&◌, not, ◌||◌, eqb, length, get_or, set, ◌↔◌}
 use Rattle.sets.specs.Sets.{has, empty, all, join, common, without, add}
 use Rattle.graph.specs.Graph.{Graph, privileged_by, is_check, check, Acceptable, System, may, sure, Outs, Arrival, arriving, in_set, past_set, out_set, Within, held}

@@ -2,8 +2,6 @@
 -- demand 3 are in the modules below. A stack is a list of node numbers here, top first, and may be of any height.
 pub mod Inspections
 pub mod Slices
-pub mod Frames
-pub mod Demand3
 pub mod Gateway
 use Rattle.std.specs.Prelude.{ℕ, zero, suc, ◌<◌, ◌≤◌, ◌≡◌, List, [], ◌∷◌, Bool, true, false, cond, get_or}
 use Rattle.sets.specs.Sets.{has}
@@ -43,14 +41,14 @@ abbrev pub rights_of : Graph → Rights
 rights_of g = rights g.nodes.privileged g.nodes.grants
 
 -- Full inspection for p, from the top: a frame without p in its grants fails; a privileged frame with p passes; else go down.
-pub full : Rights → ℕ → List ℕ → Inspected
+unfoldable pub full : Rights → ℕ → List ℕ → Inspected
 full x p [] = bottom
 full x p (n ∷ r) =
     let down = below (full x p r) in
     cond (has (get_or x.grants n 0) p) (cond (privileged_by (get_or x.marks n 0) p) (decided true) down) (decided false)
 
 -- Quick inspection by the denied and granted sets: p in the frame's denied set fails; else p in its granted set passes; else go down.
-pub quick : (denied granted : List ℕ) → ℕ → List ℕ → Inspected
+unfoldable pub quick : (denied granted : List ℕ) → ℕ → List ℕ → Inspected
 quick denied granted p [] = bottom
 quick denied granted p (n ∷ r) =
     let down = below (quick denied granted p r) in

@@ -1,4 +1,4 @@
-use Rattle.flow.specs.Walk.Sums.{trans_plain}
+use Rattle.flow.proofs.Walk.Sums.{trans_plain}
 use Rattle.flow.proofs.beyond.Goals as goal
 
 pub returns-then-kind-ne-KIND_CHECK : goal.returns-then-kind-ne-KIND_CHECK

@@ -6,7 +6,7 @@ use Rattle.graph.specs.Graph.{Slices, Content}
 use Rattle.graph.specs.Graph.Gateway.{gateway}
 use Rattle.machine.specs.declared.Inspection.TheVariants as answer
 use Rattle.stacks.specs.Machine.{rights_of, Inspected, stack_of, full, quick}
-use Rattle.stacks.specs.Machine.Gateway.{full_at_5, quick_at_5}
+use Rattle.stacks.proofs.Machine.Gateway.{full_at_5, quick_at_5}
 use Rattle.machine.specs.Inspect.{SaysSo, passes, QuickAnswers}
 
 count : {n : ℕ} {y : Inspected} → SaysSo (answer.Passes n) y → n ≡ y.looked

@@ -18,7 +18,7 @@ use Rattle.graph.specs.Graph.Rule.{out_by_rule, out_rule_mono}
 use Rattle.graph.specs.Graph.Rules.{from_low, check_low}
 use Rattle.flow.specs.Walk.{merge, past_num, judged_num, carried, AnyPasses, into, counts, Toward, PastBelow, Begun, to_of}
 use Rattle.flow.specs.Walk.Order.{toward_refl, toward_trans, merge_left, merge_right, merge_both}
-use Rattle.flow.specs.Walk.Sums.{has_carried, has_past_sure, set_holds, edge_toward, edge_past, begun_below, begun_past_below, begun_good}
+use Rattle.flow.proofs.Walk.Sums.{has_carried, has_past_sure, set_holds, edge_toward, edge_past, begun_below, begun_past_below, begun_good}
 use Rattle.sums.specs.Sums.{Room, begun, kept}
 use Rattle.round.specs.Round.{ins_to, past_to, Gatherable, Gathers, gathered, unsent, unbegun}
 

@@ -5,7 +5,7 @@ use Prim.Native.Nat.{ℕ}
 use lib.ListN.{length, length-replicate, get_or-replicate}
 use native.Mathlib.Omega.{arith}
 use Rattle.worklist.specs.Worklist.Stack.{fills_all}
-use Rattle.flow.specs.Walk.Taken.{walk_begins, rested}
+use Rattle.flow.proofs.Walk.Taken.{walk_begins, rested}
 use Rattle.sums.specs.Sums.Laws.{begins_begun}
 use Rattle.round.specs.Round.Laws.{spreads_all}
 use Rattle.solver.proofs.run.Goals.{After-slice_known-2-1}

@@ -2,7 +2,7 @@
 use mathlib.Core.Path.{refl, sym}
 use lib.ListN.{get_or-replicate}
 use native.Mathlib.Omega.{arith}
-use Rattle.flow.specs.Walk.Taken.{lists_linked}
+use Rattle.flow.proofs.Walk.Taken.{lists_linked}
 use Rattle.solver.proofs.store.Goals as goal
 
 pub slice_bounds-link-end : goal.slice_bounds-link-end

@@ -2,8 +2,8 @@
 -- for (`walked_content`).
 use mathlib.Core.Path.{sym, ◌∙◌}
 use native.Mathlib.Omega.{arith}
-use Rattle.flow.specs.Walk.Stored.{walked_content}
-use Rattle.flow.specs.Walk.Settled.{may_any}
+use Rattle.flow.proofs.Walk.Stored.{walked_content}
+use Rattle.flow.proofs.Walk.Settled.{may_any}
 use Rattle.solver.proofs.store_sure.Goals as goal
 
 pub run-requires : goal.run-requires

@@ -5,8 +5,8 @@ use lib.ListN.{length, get_or, length-set}
 use Rattle.graph.specs.Graph.{Graph, graph_of, size_of}
 use Rattle.flow.specs.Walk.{system_of, state, State, Walking}
 use Rattle.worklist.specs.Worklist.{Linked}
-use Rattle.flow.specs.Walk.Taken.{top_low, node_reads, first_low, sendable}
-use Rattle.flow.specs.Walk.Taken as taken
+use Rattle.flow.proofs.Walk.Taken.{top_low, node_reads, first_low, sendable}
+use Rattle.flow.proofs.Walk.Taken as taken
 use Rattle.solver.proofs.walk.Goals.{In-loop-top}
 use Rattle.solver.proofs.walk.Goals as goal
 

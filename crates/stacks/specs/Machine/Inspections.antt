@@ -1,11 +1,9 @@
 -- The inspections, a frame at a time.
-use Rattle.std.specs.Prelude.{ℕ, ◌≤◌, ◌≡◌, List, [], ◌∷◌, true, false, get_or}
+use Rattle.std.specs.Prelude.{ℕ, ◌≡◌, List, [], ◌∷◌, true, false, get_or}
 use Rattle.std.proofs.Math.Path.{refl}
-use Rattle.std.proofs.Common.{ap, arith}
-use Rattle.truth.specs.Truth.Bools.{by_split, clash}
 use Rattle.sets.specs.Sets.{has}
 use Rattle.graph.specs.Graph.{privileged_by}
-use Rattle.stacks.specs.Machine.{Rights, Inspected, decided, below, bottom, full, quick}
+use Rattle.stacks.specs.Machine.{Rights, decided, below, bottom, full, quick}
 
 module _ (x : Rights) (p : ℕ) where
   pub full_bottom : full x p [] ≡ bottom
@@ -24,16 +22,6 @@ module _ (x : Rights) (p : ℕ) where
     pub full_below : has (get_or x.grants n 0) p ≡ true → privileged_by (get_or x.marks n 0) p ≡ false → full x p (n ∷ r) ≡ below (full x p r)
     unfolding full
     full_below a v = rw (a, v)
-
-    -- what passes has the permission
-    pub full_grants : (full x p (n ∷ r)).passes ≡ true → has (get_or x.grants n 0) p ≡ true
-    full_grants t = by_split (has (get_or x.grants n 0) p) (λ a. a) (λ a. clash t (ap (λ (y : Inspected). y.passes) (full_lacks a)))
-
-    pub full_looks : 1 ≤ (full x p (n ∷ r)).looked
-    full_looks =
-        by_split (has (get_or x.grants n 0) p)
-        (λ a. by_split (privileged_by (get_or x.marks n 0) p) (λ v. rw (full_stops a v) (omega arith)) (λ v. rw (full_below a v) (omega arith)))
-        (λ a. rw (full_lacks a) (omega arith))
 
 module _ (denied granted : List ℕ) (p : ℕ) where
   pub quick_bottom : quick denied granted p [] ≡ bottom

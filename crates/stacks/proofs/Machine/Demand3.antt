@@ -14,8 +14,9 @@ use Rattle.graph.proofs.Graph.Rounds.{least_granted}
 use Rattle.graph.specs.Graph.Rules.{check_low}
 use Rattle.graph.specs.Graph.Code.{denied_code, granted_code, verdict_code}
 use Rattle.stacks.specs.Machine.{rights_of, Inspected, full, quick, Reachable, Agrees}
-use Rattle.stacks.specs.Machine.Inspections.{full_bottom, full_below, full_looks, quick_bottom, quick_denies, quick_grants, quick_below}
-use Rattle.stacks.specs.Machine.Frames.{Framed, bare, frame, passes_call, call_passes, framed}
+use Rattle.stacks.specs.Machine.Inspections.{full_bottom, full_below, quick_bottom, quick_denies, quick_grants, quick_below}
+use Rattle.stacks.proofs.Machine.Inspections.{full_looks}
+use Rattle.stacks.proofs.Machine.Frames.{Framed, bare, frame, passes_call, call_passes, framed}
 
 -- the least MAY and the greatest SURE solution have the three facts
 pub solved_sound : (g : Graph) → Acceptable g → (m s : Outs) → LeastMay g m → GreatestSure g m s → Sound g m s

@@ -10,9 +10,10 @@ use Rattle.graph.specs.Graph.Rule.{call_by_rule}
 use Rattle.graph.proofs.Graph.Rounds.{least_closed, greatest_backed}
 use Rattle.graph.specs.Graph.Code.{denied_code, granted_code}
 use Rattle.flow.specs.Walk.{call_num, called_by, carried, NodesStored}
-use Rattle.flow.specs.Walk.Settled.{Settled, may_settled, may_ins, sure_settled, sure_ins}
-use Rattle.flow.specs.Walk.Sums.{has_called}
-use Rattle.flow.specs.Walk.Taken.{carried_lt}
+use Rattle.flow.specs.Walk.Settled.{Settled}
+use Rattle.flow.proofs.Walk.Settled.{may_settled, may_ins, sure_settled, sure_ins}
+use Rattle.flow.proofs.Walk.Sums.{has_called}
+use Rattle.flow.proofs.Walk.Taken.{carried_lt}
 
 -- the out sets have no member at K or above
 outs_stored : (g : Graph) (y : System) (w a s q l : List ℕ) → length l ≡ g.size.m → Settled g y w a s q l → Stored g.size.k g.size.m l

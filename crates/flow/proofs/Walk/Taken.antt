@@ -15,8 +15,8 @@ use Rattle.worklist.specs.Worklist.{last, Linked, Lists, Links}
 use Rattle.worklist.specs.Worklist.Linking.{last_upper, last_own, last_le, links_linked}
 use Rattle.worklist.specs.Worklist.Stack.{take_stacked, none_stacked, all_stacked, zeros_none}
 use Rattle.flow.specs.Walk.{call_num, past_num, trans_num, edge_num, called_by, moved_by, carried, from_of, to_of, State, state, send_from, Sendable, Begun, Setting, Good, Quiet, to_do, Walking, Sending}
-use Rattle.flow.specs.Walk.Sums.{begun_good}
-use Rattle.flow.specs.Walk.Steps.{step}
+use Rattle.flow.proofs.Walk.Sums.{begun_good}
+use Rattle.flow.proofs.Walk.Steps.{step}
 
 -- what an edge carries has no member at K or above
 pub carried_lt : (g : Graph) (y : System) (w a s q : List ℕ) → Acceptable g → Good g y w s q → (e : ℕ) → e < g.size.m → carried g y a s q e < 2 ^ g.size.k

@@ -16,7 +16,7 @@ use Rattle.worklist.specs.Worklist.{fresh}
 use Rattle.worklist.specs.Worklist.Stack.{put_stacked, fresh_so, fresh_unmarked}
 use Rattle.flow.specs.Walk.{merge, call_num, past_num, trans_num, edge_num, carried, from_of, to_of, counts, State, into, changes, changed, push, arrive, Toward, Setting, Good, Quiet, left, Sending}
 use Rattle.flow.specs.Walk.Order.{toward_trans, toward_refl, merge_left, merge_right}
-use Rattle.flow.specs.Walk.Sums.{set_holds, arrive_good, carried_toward}
+use Rattle.flow.proofs.Walk.Sums.{set_holds, arrive_good, carried_toward}
 use Rattle.flow.specs.Walk.Left.{into_less, into_most}
 
 -- an edge carries the same while the sums of its from node are the same

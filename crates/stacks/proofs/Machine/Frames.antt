@@ -10,7 +10,8 @@ use Rattle.graph.specs.Graph.Edges.{call_privileged, call_at_least, call_at_most
 use Rattle.graph.proofs.Graph.Edges.{in_may, in_sure, past_may, past_sure, PastSure}
 use Rattle.graph.specs.Graph.Rules.{transfer_same, to_low, check_low}
 use Rattle.stacks.specs.Machine.{rights_of, Inspected, full, Step, enter, call, pass, back, Reachable, empty, then}
-use Rattle.stacks.specs.Machine.Inspections.{full_bottom, full_stops, full_below, full_grants}
+use Rattle.stacks.specs.Machine.Inspections.{full_bottom, full_stops, full_below}
+use Rattle.stacks.proofs.Machine.Inspections.{full_grants}
 
 -- what a frame n above the frames r came with: what passes on r, cut to its grants
 pub came : Graph → ℕ → List ℕ → ℕ → Bool

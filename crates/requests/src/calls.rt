@@ -7,7 +7,7 @@ mod solve;
 mod step;
 
 use super::numbers::{after_list, at_most, peek, plus};
-use super::show::{BLANK_U16, BLANK_U64};
+use super::show::{BLANK_U16, BLANK_U64, Out};
 use graph::Size;
 
 // How many places are lent of the two sets of every node and of the stack, and the stack's height.
@@ -134,6 +134,7 @@ fn prints(call: usize) -> bool {
 
 // A call that writes no slice, and whose answer alone is left of it.
 fn ask(
+    out: &mut Out,
     call: usize,
     asked: Asked,
     height: usize,
@@ -152,12 +153,13 @@ fn ask(
 ) {
     if call == 0 {
         ruling::check(
-            size, kinds, checks, privileged, entries, grants, froms, tos, ways,
+            out, size, kinds, checks, privileged, entries, grants, froms, tos, ways,
         );
         return;
     }
     if call == 2 {
         ruling::verdict(
+            out,
             asked.first,
             size,
             kinds,
@@ -175,6 +177,7 @@ fn ask(
     }
     if call == 3 {
         inspect::full(
+            out,
             asked.first,
             height,
             size,
@@ -192,6 +195,7 @@ fn ask(
     }
     if call == 4 {
         inspect::quick(
+            out,
             asked.first,
             height,
             size,
@@ -210,12 +214,13 @@ fn ask(
         return;
     }
     if prints(call) {
-        print::print_rows(call, asked, size.n, kinds, checks, denied, granted);
+        print::print_rows(out, call, asked, size.n, kinds, checks, denied, granted);
     }
 }
 
 // By as much of the three slices as is lent.
 fn ask_lent(
+    out: &mut Out,
     call: usize,
     asked: Asked,
     lent: Lengths,
@@ -236,6 +241,7 @@ fn ask_lent(
     let b = at_most(lent.granted, granted.len());
     let c = at_most(lent.stack, stack.len());
     ask(
+        out,
         call,
         asked,
         lent.height,
@@ -260,6 +266,7 @@ fn writes(call: usize) -> bool {
 
 // A call that writes slices which are lent to the calls after it: 1 or 5.
 fn write(
+    out: &mut Out,
     lent: Lent,
     numbers: &[usize],
     at: usize,
@@ -276,6 +283,7 @@ fn write(
     let asked = peek(numbers, plus(at, 1));
     if peek(numbers, at) == 1 {
         return solve::solve(
+            out,
             lent,
             at_most(asked, 1025),
             at_most(peek(numbers, plus(at, 2)), 1025),
@@ -293,11 +301,12 @@ fn write(
         );
     }
     step::step(
-        lent, asked, size, kinds, checks, privileged, entries, grants, froms, tos, ways,
+        out, lent, asked, size, kinds, checks, privileged, entries, grants, froms, tos, ways,
     )
 }
 
 fn answer_call(
+    out: &mut Out,
     lent: Lent,
     numbers: &[usize],
     at: usize,
@@ -317,7 +326,8 @@ fn answer_call(
     }
     if writes(call) {
         return write(
-            lent, numbers, at, size, kinds, checks, privileged, entries, grants, froms, tos, ways,
+            out, lent, numbers, at, size, kinds, checks, privileged, entries, grants, froms, tos,
+            ways,
         );
     }
     let asked = asked_at(numbers, at);
@@ -325,6 +335,7 @@ fn answer_call(
     let granted = lent.granted;
     let stack = lent.stack;
     ask_lent(
+        out,
         call,
         asked,
         lent.lengths,
@@ -346,6 +357,7 @@ fn answer_call(
 
 // Each call takes a number at least, so that there are no more calls than numbers.
 pub(crate) fn answer_all(
+    out: &mut Out,
     start: usize,
     numbers: &[usize],
     size: Size,
@@ -366,7 +378,8 @@ pub(crate) fn answer_all(
             return;
         }
         lent = answer_call(
-            lent, numbers, at, size, kinds, checks, privileged, entries, grants, froms, tos, ways,
+            out, lent, numbers, at, size, kinds, checks, privileged, entries, grants, froms, tos,
+            ways,
         );
         at = after_call(numbers, at);
         left -= 1;

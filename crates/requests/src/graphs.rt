@@ -1,7 +1,7 @@
 // The slices of C's graph, one after the other: each function stores one more list of the numbers and hands on the slice.
 use super::calls::answer_all;
 use super::numbers::{after_list, at_most, fill_u8, fill_u16, fill_u64, peek, read_numbers};
-use super::show::{BLANK_U8, BLANK_U16, BLANK_U64};
+use super::show::{BLANK_U8, BLANK_U16, BLANK_U64, Out};
 use graph::Size;
 
 // Where one of the graph's lists stands among the numbers. They count from 0, and where an eighth would stand the calls begin.
@@ -24,6 +24,7 @@ fn size_of(numbers: &[usize]) -> Size {
 }
 
 fn with_ways(
+    out: &mut Out,
     numbers: &[usize],
     kinds: &[u8],
     checks: &[u16],
@@ -36,6 +37,7 @@ fn with_ways(
     let mut ways = [BLANK_U8; 4097];
     let long = at_most(fill_u8(&mut ways, numbers, list_at(numbers, 7)), 4097);
     answer_all(
+        out,
         list_at(numbers, 8),
         numbers,
         size_of(numbers),
@@ -51,6 +53,7 @@ fn with_ways(
 }
 
 fn with_tos(
+    out: &mut Out,
     numbers: &[usize],
     kinds: &[u8],
     checks: &[u16],
@@ -62,6 +65,7 @@ fn with_tos(
     let mut tos = [BLANK_U16; 4097];
     let long = at_most(fill_u16(&mut tos, numbers, list_at(numbers, 6)), 4097);
     with_ways(
+        out,
         numbers,
         kinds,
         checks,
@@ -74,6 +78,7 @@ fn with_tos(
 }
 
 fn with_froms(
+    out: &mut Out,
     numbers: &[usize],
     kinds: &[u8],
     checks: &[u16],
@@ -84,6 +89,7 @@ fn with_froms(
     let mut froms = [BLANK_U16; 4097];
     let long = at_most(fill_u16(&mut froms, numbers, list_at(numbers, 5)), 4097);
     with_tos(
+        out,
         numbers,
         kinds,
         checks,
@@ -94,10 +100,18 @@ fn with_froms(
     );
 }
 
-fn with_grants(numbers: &[usize], kinds: &[u8], checks: &[u16], privileged: &[u8], entries: &[u8]) {
+fn with_grants(
+    out: &mut Out,
+    numbers: &[usize],
+    kinds: &[u8],
+    checks: &[u16],
+    privileged: &[u8],
+    entries: &[u8],
+) {
     let mut grants = [BLANK_U64; 1025];
     let long = at_most(fill_u64(&mut grants, numbers, list_at(numbers, 4)), 1025);
     with_froms(
+        out,
         numbers,
         kinds,
         checks,
@@ -107,33 +121,33 @@ fn with_grants(numbers: &[usize], kinds: &[u8], checks: &[u16], privileged: &[u8
     );
 }
 
-fn with_entries(numbers: &[usize], kinds: &[u8], checks: &[u16], privileged: &[u8]) {
+fn with_entries(out: &mut Out, numbers: &[usize], kinds: &[u8], checks: &[u16], privileged: &[u8]) {
     let mut entries = [BLANK_U8; 1025];
     let long = at_most(fill_u8(&mut entries, numbers, list_at(numbers, 3)), 1025);
-    with_grants(numbers, kinds, checks, privileged, &entries[0..long]);
+    with_grants(out, numbers, kinds, checks, privileged, &entries[0..long]);
 }
 
-fn with_privileged(numbers: &[usize], kinds: &[u8], checks: &[u16]) {
+fn with_privileged(out: &mut Out, numbers: &[usize], kinds: &[u8], checks: &[u16]) {
     let mut privileged = [BLANK_U8; 1025];
     let long = at_most(fill_u8(&mut privileged, numbers, list_at(numbers, 2)), 1025);
-    with_entries(numbers, kinds, checks, &privileged[0..long]);
+    with_entries(out, numbers, kinds, checks, &privileged[0..long]);
 }
 
-fn with_checks(numbers: &[usize], kinds: &[u8]) {
+fn with_checks(out: &mut Out, numbers: &[usize], kinds: &[u8]) {
     let mut checks = [BLANK_U16; 1025];
     let long = at_most(fill_u16(&mut checks, numbers, list_at(numbers, 1)), 1025);
-    with_privileged(numbers, kinds, &checks[0..long]);
+    with_privileged(out, numbers, kinds, &checks[0..long]);
 }
 
-fn with_kinds(numbers: &[usize]) {
+fn with_kinds(out: &mut Out, numbers: &[usize]) {
     let mut kinds = [BLANK_U8; 1025];
     let long = at_most(fill_u8(&mut kinds, numbers, list_at(numbers, 0)), 1025);
-    with_checks(numbers, &kinds[0..long]);
+    with_checks(out, numbers, &kinds[0..long]);
 }
 
 // Answers C. A request's 99,999 bytes hold at most 50,000 numbers.
-pub(crate) fn answer_calls(bytes: &[u8]) {
+pub(crate) fn answer_calls(out: &mut Out, bytes: &[u8]) {
     let mut numbers = [0usize; 50000];
     let count = at_most(read_numbers(&mut numbers, bytes), 50000);
-    with_kinds(&numbers[0..count]);
+    with_kinds(out, &numbers[0..count]);
 }

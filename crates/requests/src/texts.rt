@@ -3,21 +3,21 @@ ghost use Rattle.std.specs.Prelude.{◌≤◌};
 
 use super::numbers::{after_spaces, at_most, read_numbers};
 use super::show::{
-    BLANK_U8, BLANK_U16, BLANK_U64, keeps_u8, keeps_u16, keeps_u64, print, print_after_comma,
+    BLANK_U8, BLANK_U16, BLANK_U64, Out, keeps_u8, keeps_u16, keeps_u64, print, print_after_comma,
     print_number, print_refusal, print_unless_kept,
 };
 use text::Reading;
 
-fn print_set(bits: u64) {
+fn print_set(out: &mut Out, bits: u64) {
     let mut rest = bits;
     let mut some = false;
     let mut p: usize = 0;
     while p < 64 {
         if rest % 2 == 1 {
             if some {
-                print(b" ");
+                print(out, b" ");
             }
-            print_number(p);
+            print_number(out, p);
             some = true;
         }
         rest = rest / 2;
@@ -25,53 +25,62 @@ fn print_set(bits: u64) {
     }
 }
 
-fn print_kind(kind: u8) {
+fn print_kind(out: &mut Out, kind: u8) {
     if kind == 0 {
-        print(b",C,");
+        print(out, b",C,");
         return;
     }
     if kind == 1 {
-        print(b",R,");
+        print(out, b",R,");
         return;
     }
-    print(b",K,");
+    print(out, b",K,");
 }
 
-fn print_marks(privileged: u8, entry: u8) {
+fn print_marks(out: &mut Out, privileged: u8, entry: u8) {
     if privileged == 1 {
-        print(b"P");
+        print(out, b"P");
     }
     if entry == 1 {
-        print(b"E");
+        print(out, b"E");
     }
 }
 
-fn print_node(i: usize, kind: u8, check: u16, privileged: u8, entry: u8, grants: u64) {
-    print(b"N");
-    print_after_comma(i);
-    print_kind(kind);
+fn print_node(
+    out: &mut Out,
+    i: usize,
+    kind: u8,
+    check: u16,
+    privileged: u8,
+    entry: u8,
+    grants: u64,
+) {
+    print(out, b"N");
+    print_after_comma(out, i);
+    print_kind(out, kind);
     if kind == 2 {
-        print_number(check as usize);
+        print_number(out, check as usize);
     }
-    print(b",");
-    print_marks(privileged, entry);
-    print(b",");
-    print_set(grants);
-    print(b"\r\n");
+    print(out, b",");
+    print_marks(out, privileged, entry);
+    print(out, b",");
+    print_set(out, grants);
+    print(out, b"\r\n");
 }
 
-fn print_edge(from: u16, to: u16, way: u8) {
-    print(b"E");
-    print_after_comma(from as usize);
-    print_after_comma(to as usize);
+fn print_edge(out: &mut Out, from: u16, to: u16, way: u8) {
+    print(out, b"E");
+    print_after_comma(out, from as usize);
+    print_after_comma(out, to as usize);
     if way == 0 {
-        print(b",C,,\r\n");
+        print(out, b",C,,\r\n");
         return;
     }
-    print(b",T,,\r\n");
+    print(out, b",T,,\r\n");
 }
 
 fn print_nodes(
+    out: &mut Out,
     n: usize,
     kinds: &[u8; 1025],
     checks: &[u16; 1025],
@@ -82,17 +91,25 @@ fn print_nodes(
     let mut i: usize = 0;
     while i < 1025 {
         if i < n {
-            print_node(i, kinds[i], checks[i], privileged[i], entries[i], grants[i]);
+            print_node(
+                out,
+                i,
+                kinds[i],
+                checks[i],
+                privileged[i],
+                entries[i],
+                grants[i],
+            );
         }
         i += 1;
     }
 }
 
-fn print_edges(m: usize, froms: &[u16; 4097], tos: &[u16; 4097], ways: &[u8; 4097]) {
+fn print_edges(out: &mut Out, m: usize, froms: &[u16; 4097], tos: &[u16; 4097], ways: &[u8; 4097]) {
     let mut e: usize = 0;
     while e < 4097 {
         if e < m {
-            print_edge(froms[e], tos[e], ways[e]);
+            print_edge(out, froms[e], tos[e], ways[e]);
         }
         e += 1;
     }
@@ -133,6 +150,7 @@ fn keeps_edges(m: usize, froms: &[u16; 4097], tos: &[u16; 4097], ways: &[u8; 409
 
 // Says so if a place from n or m on was written.
 fn print_kept(
+    out: &mut Out,
     n: usize,
     m: usize,
     kinds: &[u8; 1025],
@@ -145,13 +163,14 @@ fn print_kept(
     ways: &[u8; 4097],
 ) {
     if !keeps_nodes(n, kinds, checks, privileged, entries, grants) {
-        print_unless_kept(false);
+        print_unless_kept(out, false);
         return;
     }
-    print_unless_kept(keeps_edges(m, froms, tos, ways));
+    print_unless_kept(out, keeps_edges(m, froms, tos, ways));
 }
 
 fn print_graph(
+    out: &mut Out,
     k: usize,
     n: usize,
     m: usize,
@@ -164,19 +183,20 @@ fn print_graph(
     tos: &[u16; 4097],
     ways: &[u8; 4097],
 ) {
-    print(b"G");
-    print_after_comma(k);
-    print_after_comma(n);
-    print_after_comma(m);
-    print(b",,\r\n");
-    print_nodes(n, kinds, checks, privileged, entries, grants);
-    print_edges(m, froms, tos, ways);
+    print(out, b"G");
+    print_after_comma(out, k);
+    print_after_comma(out, n);
+    print_after_comma(out, m);
+    print(out, b",,\r\n");
+    print_nodes(out, n, kinds, checks, privileged, entries, grants);
+    print_edges(out, m, froms, tos, ways);
     print_kept(
-        n, m, kinds, checks, privileged, entries, grants, froms, tos, ways,
+        out, n, m, kinds, checks, privileged, entries, grants, froms, tos, ways,
     );
 }
 
 fn print_reading(
+    out: &mut Out,
     reading: Reading,
     kinds: &[u8; 1025],
     checks: &[u16; 1025],
@@ -189,12 +209,13 @@ fn print_reading(
 ) {
     match reading {
         Reading::Graph(size) => print_graph(
-            size.k, size.n, size.m, kinds, checks, privileged, entries, grants, froms, tos, ways,
+            out, size.k, size.n, size.m, kinds, checks, privileged, entries, grants, froms, tos,
+            ways,
         ),
         Reading::Refused(why) => {
-            print_refusal(why);
+            print_refusal(out, why);
             print_kept(
-                0, 0, kinds, checks, privileged, entries, grants, froms, tos, ways,
+                out, 0, 0, kinds, checks, privileged, entries, grants, froms, tos, ways,
             );
         }
     }
@@ -202,6 +223,7 @@ fn print_reading(
 
 // Reads a text into slices of the given lengths, in the order of the call.
 fn answer_lent(
+    out: &mut Out,
     text: &[u8],
     a: usize,
     b: usize,
@@ -212,8 +234,8 @@ fn answer_lent(
     g: usize,
     h: usize,
 )
-    requires a_bound { (a ≤ 1025) × (b ≤ 1025) × (c ≤ 1025) × (d ≤ 1025) × (e ≤ 1025) }
-    requires f_bound { (f ≤ 4097) × (g ≤ 4097) × (h ≤ 4097) }
+    requires node_lengths { (a ≤ 1025) × (b ≤ 1025) × (c ≤ 1025) × (d ≤ 1025) × (e ≤ 1025) }
+    requires edge_lengths { (f ≤ 4097) × (g ≤ 4097) × (h ≤ 4097) }
 {
     let mut kinds = [BLANK_U8; 1025];
     let mut checks = [BLANK_U16; 1025];
@@ -235,6 +257,7 @@ fn answer_lent(
         &mut ways[0..h],
     );
     print_reading(
+        out,
         reading,
         &kinds,
         &checks,
@@ -248,17 +271,18 @@ fn answer_lent(
 }
 
 // Answers T.
-pub(crate) fn answer_text(text: &[u8]) {
-    answer_lent(text, 1024, 1024, 1024, 1024, 1024, 4096, 4096, 4096);
+pub(crate) fn answer_text(out: &mut Out, text: &[u8]) {
+    answer_lent(out, text, 1024, 1024, 1024, 1024, 1024, 4096, 4096, 4096);
 }
 
 // Answers L.
-pub(crate) fn answer_lengths(bytes: &[u8]) {
+pub(crate) fn answer_lengths(out: &mut Out, bytes: &[u8]) {
     let mut lengths = [0usize; 8];
     read_numbers(&mut lengths, bytes);
     let end = bytes.len();
     let from = at_most(after_spaces(bytes, 8), end);
     answer_lent(
+        out,
         &bytes[from..end],
         at_most(lengths[0], 1025),
         at_most(lengths[1], 1025),

@@ -1,12 +1,17 @@
 // Reads a graph's text from standard input and writes the result's rows, or the refusal's, to standard output. Nothing is written there unless the end
 // of the input was seen: a text that was cut short by a failed read may be a good text of another graph.
 #![tactic(auto)]
-ghost use Rattle.std.specs.Prelude.{◌≡◌, List, true, ℕ, ◌≤◌, ◌<◌, length};
+
+ghost use Rattle.std.specs.Prelude.{◌≡◌, List, false, true, ℕ, ◌≤◌, ◌<◌, length, IfSome};
+ghost use Rattle.std.specs.Io.KnownBytes.{Appends};
 ghost use Rattle.answer.specs.Prints.{Prints, Answers};
+ghost use Rattle.verdicts.specs.Answered.{Answered};
 
 use graph::Refusal;
 use refusals::Written;
-use stream::Input;
+use std::io::{Read, Write};
+use std::process::ExitCode;
+use stream::{Input, Streams};
 
 mod stream;
 
@@ -39,86 +44,111 @@ fn answer_text(out: &mut [u8], text: &[u8]) -> Written
     )
 }
 
-fn send(out: &[u8]) {
+fn send<W: Write>(streams: &mut Streams<W>, out: &[u8])
+    ensures { streams.new.has_complained ≡ false → Appends (W.contents streams.old.output) (W.contents streams.new.output) out.now }
+{
     stream::send(
+        streams,
         out,
         b"verdicts: the rows could not be written to their end\n",
     );
 }
 
 // What is written for a text is what the text prints.
-fn print(text: &[u8], out: &[u8])
+fn print<W: Write>(streams: &mut Streams<W>, text: &[u8], out: &[u8])
     requires { Prints text.now out.now }
+    ensures { streams.new.has_complained ≡ false → Answered text.now (W.contents streams.old.output) (W.contents streams.new.output) }
 {
-    send(out);
+    send(streams, out);
 }
 
 // The same for every text above 65,536 bytes.
-fn print_for_long(out: &[u8])
+fn print_for_long<W: Write>(streams: &mut Streams<W>, out: &[u8])
     requires { (s : List ℕ) → 65536 < length s → Prints s out.now }
+    ensures { streams.new.has_complained ≡ false → (s : List ℕ) → 65536 < length s → Answered s (W.contents streams.old.output) (W.contents streams.new.output) }
 {
-    send(out);
+    send(streams, out);
 }
-
-// Stands where control never comes.
-fn never()
-    requires { ⊥ }
-{}
 
 // Prints the answer where the buffer is long enough for it, and says whether it was. For every one 440,000 bytes are enough: 1,024 rows of at most
 // 429 bytes and the header's 29.
-fn print_from(out: &mut [u8], text: &[u8]) -> bool
-    ensures { 440000 ≤ length out.old → result ≡ true }
+fn print_from<W: Write>(streams: &mut Streams<W>, out: &mut [u8], text: &[u8]) -> bool
+    ensures long_enough { 440000 ≤ length out.old → result ≡ true }
+    ensures untouched { result ≡ false → streams.new ≡ streams.old }
+    ensures answered { result ≡ true → streams.new.has_complained ≡ false → Answered text.now (W.contents streams.old.output) (W.contents streams.new.output) }
 {
     let Written::Bytes(count) = answer_text(out, text) else {
         return false;
     };
-    print(text, &out[0..count]);
+    print(streams, text, &out[0..count]);
     true
 }
 
-fn print_short(text: &[u8]) -> bool {
+fn print_short<W: Write>(streams: &mut Streams<W>, text: &[u8]) -> bool
+    ensures untouched { result ≡ false → streams.new ≡ streams.old }
+    ensures answered { result ≡ true → streams.new.has_complained ≡ false → Answered text.now (W.contents streams.old.output) (W.contents streams.new.output) }
+{
     let mut out = [0u8; 65536];
-    print_from(&mut out, text)
+    print_from(streams, &mut out, text)
 }
 
-fn print_long(text: &[u8]) {
+fn print_long<W: Write>(streams: &mut Streams<W>, text: &[u8])
+    ensures { streams.new.has_complained ≡ false → Answered text.now (W.contents streams.old.output) (W.contents streams.new.output) }
+{
     let mut out = [0u8; 440000];
-    if !print_from(&mut out, text) {
-        never();
+    if !print_from(streams, &mut out, text) {
+        unreachable!()
     }
 }
 
 // Short texts are spared the clearing of the long buffer.
-fn print_answer(text: &[u8]) {
+fn print_answer<W: Write>(streams: &mut Streams<W>, text: &[u8])
+    ensures { streams.new.has_complained ≡ false → Answered text.now (W.contents streams.old.output) (W.contents streams.new.output) }
+{
     if text.len() <= SHORT_TEXT {
-        if print_short(text) {
+        if print_short(streams, text) {
             return;
         }
     }
-    print_long(text);
+    print_long(streams, text);
 }
 
 // A text above 65,536 bytes is refused, and none of it has to be seen.
-fn print_too_long() {
+fn print_too_long<W: Write>(streams: &mut Streams<W>)
+    ensures { streams.new.has_complained ≡ false → (s : List ℕ) → 65536 < length s → Answered s (W.contents streams.old.output) (W.contents streams.new.output) }
+{
     let mut out = [0u8; 64];
     let Written::Bytes(count) = refusals::write_refusal(&mut out, Refusal::TooLong) else {
-        never();
-        return;
+        unreachable!()
     };
-    print_for_long(&out[0..count]);
+    print_for_long(streams, &out[0..count]);
 }
 
-fn complain_unread() {
-    stream::complain(b"verdicts: the text could not be read to its end\n");
+fn complain_unread<W: Write>(streams: &mut Streams<W>)
+    ensures output_kept { streams.new.output ≡ streams.old.output }
+    ensures told { streams.new.has_complained ≡ true }
+{
+    stream::complain(
+        streams,
+        b"verdicts: the text could not be read to its end\n",
+    );
 }
 
-fn main() {
+// Unless a complaint was made, the output has what the whole input prints.
+fn answer_input<R: Read, W: Write>(input: &mut R, streams: &mut Streams<W>)
+    ensures { streams.new.has_complained ≡ false → IfSome (R.remaining input.old) (λ s. Answered s (W.contents streams.old.output) (W.contents streams.new.output)) }
+{
     let mut buffer = [0u8; 65536];
-    let input = stream::read_input(&mut buffer);
-    match input {
-        Input::Whole(count) => print_answer(&buffer[0..count]),
-        Input::TooLong => print_too_long(),
-        Input::Broken => complain_unread(),
+    let read = stream::read_input(input, &mut buffer);
+    match read {
+        Input::Whole(count) => print_answer(streams, &buffer[..count]),
+        Input::TooLong => print_too_long(streams),
+        Input::Broken => complain_unread(streams),
     }
+}
+
+fn main(rt: HostRuntime) -> ExitCode {
+    let mut streams = Streams::new(rt.stdout(), rt.stderr());
+    answer_input(&mut rt.stdin(), &mut streams);
+    streams.status()
 }

@@ -1,17 +1,18 @@
 // The two inspections.
-use crate::show::{print_line, print_refusal};
+use crate::show::{Out, print_line, print_refusal};
 use graph::Size;
 use machine::Inspection;
 
-fn print_inspection(answer: Inspection) {
+fn print_inspection(out: &mut Out, answer: Inspection) {
     match answer {
-        Inspection::Passes(looked) => print_line(b"passes ", looked),
-        Inspection::Fails(looked) => print_line(b"fails ", looked),
-        Inspection::Refused(why) => print_refusal(why),
+        Inspection::Passes(looked) => print_line(out, b"passes ", looked),
+        Inspection::Fails(looked) => print_line(out, b"fails ", looked),
+        Inspection::Refused(why) => print_refusal(out, why),
     }
 }
 
 pub(crate) fn full(
+    out: &mut Out,
     p: usize,
     height: usize,
     size: Size,
@@ -25,12 +26,16 @@ pub(crate) fn full(
     ways: &[u8],
     stack: &[u16],
 ) {
-    print_inspection(machine::full(
-        size, kinds, checks, privileged, entries, grants, froms, tos, ways, stack, height, p,
-    ));
+    print_inspection(
+        out,
+        machine::full(
+            size, kinds, checks, privileged, entries, grants, froms, tos, ways, stack, height, p,
+        ),
+    );
 }
 
 pub(crate) fn quick(
+    out: &mut Out,
     p: usize,
     height: usize,
     size: Size,
@@ -46,8 +51,11 @@ pub(crate) fn quick(
     granted: &[u64],
     stack: &[u16],
 ) {
-    print_inspection(machine::quick(
-        size, kinds, checks, privileged, entries, grants, froms, tos, ways, denied, granted, stack,
-        height, p,
-    ));
+    print_inspection(
+        out,
+        machine::quick(
+            size, kinds, checks, privileged, entries, grants, froms, tos, ways, denied, granted,
+            stack, height, p,
+        ),
+    );
 }

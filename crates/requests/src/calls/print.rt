@@ -1,28 +1,29 @@
 // The result, or a refusal, as the bytes that the rows' printer stores in a lent buffer.
 use crate::calls::Asked;
 use crate::numbers::at_most;
-use crate::show::{BLANK_U8, keeps_u8, print, print_refusal, print_unless_kept};
+use crate::show::{BLANK_U8, Out, keeps_u8, print, print_refusal, print_unless_kept};
 use graph::Refusal;
 use refusals::Written;
 
 // Prints the first bytes of a buffer, and says so if the rest was written.
-fn print_first(buffer: &[u8], count: usize) {
+fn print_first(out: &mut Out, buffer: &[u8], count: usize) {
     let n = at_most(count, buffer.len());
-    print(&buffer[0..n]);
-    print_unless_kept(keeps_u8(buffer, n));
+    print(out, &buffer[0..n]);
+    print_unless_kept(out, keeps_u8(buffer, n));
 }
 
-fn print_written(written: Written, buffer: &[u8]) {
+fn print_written(out: &mut Out, written: Written, buffer: &[u8]) {
     match written {
-        Written::Bytes(count) => print_first(buffer, count),
+        Written::Bytes(count) => print_first(out, buffer, count),
         Written::Refused(why) => {
-            print_refusal(why);
-            print_unless_kept(keeps_u8(buffer, 0));
+            print_refusal(out, why);
+            print_unless_kept(out, keeps_u8(buffer, 0));
         }
     }
 }
 
 fn result_to(
+    out: &mut Out,
     buffer: &mut [u8],
     n: usize,
     kinds: &[u8],
@@ -31,7 +32,7 @@ fn result_to(
     granted: &[u64],
 ) {
     let written = rows::write_result(buffer, n, kinds, checks, denied, granted);
-    print_written(written, buffer);
+    print_written(out, written, buffer);
 }
 
 fn numbered(number: usize, place: usize) -> Refusal {
@@ -51,9 +52,9 @@ fn numbered(number: usize, place: usize) -> Refusal {
     }
 }
 
-fn refusal_to(buffer: &mut [u8], why: Refusal) {
+fn refusal_to(out: &mut Out, buffer: &mut [u8], why: Refusal) {
     let written = refusals::write_refusal(buffer, why);
-    print_written(written, buffer);
+    print_written(out, written, buffer);
 }
 
 // 8 has the buffer's length first, 9 the refusal's number and place before it.
@@ -65,6 +66,7 @@ fn length_of(call: usize, asked: Asked) -> usize {
 }
 
 fn print_to(
+    out: &mut Out,
     buffer: &mut [u8],
     call: usize,
     asked: Asked,
@@ -75,14 +77,15 @@ fn print_to(
     granted: &[u64],
 ) {
     if call == 8 {
-        result_to(buffer, n, kinds, checks, denied, granted);
+        result_to(out, buffer, n, kinds, checks, denied, granted);
         return;
     }
-    refusal_to(buffer, numbered(asked.first, asked.second));
+    refusal_to(out, buffer, numbered(asked.first, asked.second));
 }
 
 // Call 8 or 9.
 pub(crate) fn print_rows(
+    out: &mut Out,
     call: usize,
     asked: Asked,
     n: usize,
@@ -94,6 +97,7 @@ pub(crate) fn print_rows(
     let long = at_most(length_of(call, asked), 400000);
     let mut buffer = [BLANK_U8; 400000];
     print_to(
+        out,
         &mut buffer[0..long],
         call,
         asked,

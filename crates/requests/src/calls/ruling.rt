@@ -1,9 +1,10 @@
 // The graph's check, and the verdict at a node.
-use crate::show::{print, print_line, print_refusal};
+use crate::show::{Out, print, print_line, print_refusal};
 use graph::{Judged, Size};
 use verdict::Ruling;
 
 pub(crate) fn check(
+    out: &mut Out,
     size: Size,
     kinds: &[u8],
     checks: &[u16],
@@ -18,12 +19,13 @@ pub(crate) fn check(
         size, kinds, checks, privileged, entries, grants, froms, tos, ways,
     );
     match judged {
-        Judged::Accepted => print(b"accepted\n"),
-        Judged::Refused(why) => print_refusal(why),
+        Judged::Accepted => print(out, b"accepted\n"),
+        Judged::Refused(why) => print_refusal(out, why),
     }
 }
 
 pub(crate) fn verdict(
+    out: &mut Out,
     node: usize,
     size: Size,
     kinds: &[u8],
@@ -41,7 +43,7 @@ pub(crate) fn verdict(
         size, kinds, checks, privileged, entries, grants, froms, tos, ways, denied, granted, node,
     );
     match ruling {
-        Ruling::Given(found) => print_line(b"verdict ", found.number()),
-        Ruling::Refused(why) => print_refusal(why),
+        Ruling::Given(found) => print_line(out, b"verdict ", found.number()),
+        Ruling::Refused(why) => print_refusal(out, why),
     }
 }

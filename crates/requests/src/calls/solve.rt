@@ -3,7 +3,7 @@ ghost use Rattle.std.specs.Prelude.{◌≤◌};
 
 use crate::calls::Lent;
 use crate::show::{
-    BLANK_U64, keeps_u64, print, print_first_u64s, print_refusal, print_unless_kept,
+    BLANK_U64, Out, keeps_u64, print, print_first_u64s, print_refusal, print_unless_kept,
 };
 use graph::{Judged, Size};
 
@@ -22,6 +22,7 @@ fn keeps_all(denied: &[u64], granted: &[u64], may: &[u64], sure: &[u64]) -> bool
 
 // The first places of each slice, as many as were lent.
 fn print_solved(
+    out: &mut Out,
     judged: Judged,
     a: usize,
     b: usize,
@@ -34,21 +35,22 @@ fn print_solved(
 ) {
     match judged {
         Judged::Accepted => {
-            print(b"solved\n");
-            print_first_u64s(denied, a);
-            print_first_u64s(granted, b);
-            print_first_u64s(may, c);
-            print_first_u64s(sure, d);
+            print(out, b"solved\n");
+            print_first_u64s(out, denied, a);
+            print_first_u64s(out, granted, b);
+            print_first_u64s(out, may, c);
+            print_first_u64s(out, sure, d);
         }
         Judged::Refused(why) => {
-            print_refusal(why);
-            print_unless_kept(keeps_all(denied, granted, may, sure));
+            print_refusal(out, why);
+            print_unless_kept(out, keeps_all(denied, granted, may, sure));
         }
     }
 }
 
 // What the first two slices hold after this is lent to the calls that follow.
 pub(crate) fn solve(
+    out: &mut Out,
     lent: Lent,
     a: usize,
     b: usize,
@@ -85,6 +87,6 @@ pub(crate) fn solve(
         &mut may[0..c],
         &mut sure[0..d],
     );
-    print_solved(judged, a, b, c, d, &denied, &granted, &may, &sure);
+    print_solved(out, judged, a, b, c, d, &denied, &granted, &may, &sure);
     lent.with_sets(denied, a, granted, b)
 }

@@ -1,19 +1,19 @@
 // A step on the stack that was lent.
 use crate::calls::Lent;
 use crate::numbers::at_most;
-use crate::show::{print_line, print_refusal, print_u16s};
+use crate::show::{Out, print_line, print_refusal, print_u16s};
 use graph::Size;
 use machine::Stepped;
 
 // Prints the new height, and answers it. A refusal leaves it as it was.
-fn print_step(answer: Stepped, height: usize) -> usize {
+fn print_step(out: &mut Out, answer: Stepped, height: usize) -> usize {
     match answer {
         Stepped::Moved(new) => {
-            print_line(b"height ", new);
+            print_line(out, b"height ", new);
             new
         }
         Stepped::Refused(why) => {
-            print_refusal(why);
+            print_refusal(out, why);
             height
         }
     }
@@ -21,6 +21,7 @@ fn print_step(answer: Stepped, height: usize) -> usize {
 
 // Answers the new height.
 fn step_on(
+    out: &mut Out,
     stack: &mut [u16],
     long: usize,
     height: usize,
@@ -50,12 +51,13 @@ fn step_on(
         height,
         next,
     );
-    let new = print_step(answer, height);
-    print_u16s(&stack[0..n]);
+    let new = print_step(out, answer, height);
+    print_u16s(out, &stack[0..n]);
     new
 }
 
 pub(crate) fn step(
+    out: &mut Out,
     lent: Lent,
     next: usize,
     size: Size,
@@ -71,6 +73,7 @@ pub(crate) fn step(
     let mut stack = lent.stack;
     let lengths = lent.lengths;
     let height = step_on(
+        out,
         &mut stack,
         lengths.stack,
         lengths.height,

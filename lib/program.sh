@@ -74,7 +74,7 @@ answer_by() {
     trap 'rm -rf "$kept"' EXIT
     { "${loader[@]}" "$program" >"$kept/out" 2>"$kept/err" || status=$?; } 2>/dev/null
     cat "$kept/err" >&2 || true
-    [ "$status" -eq 0 ] || { say "the program ended with status $status"; exit 2; }
+    [ "$status" -eq 0 ] || { [ -s "$kept/err" ] || say "the program ended with status $status"; exit 2; }
     [ ! -s "$kept/err" ] || exit 2
     [ -s "$kept/out" ] || { say 'the program wrote nothing'; exit 2; }
     cat "$kept/out" || { say 'the output could not be written to its end'; exit 2; }

@@ -31,7 +31,7 @@ const MARK_ENTRY: usize = 2;
 const MARK_BOTH: usize = 3;
 
 // What a field is to be.
-#[derive(Drop)]
+#[derive(Clone, Copy)]
 pub enum Form {
     Tag(u8),
     Number,

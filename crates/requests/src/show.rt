@@ -38,7 +38,7 @@ impl Out {
     }
 }
 
-// After a write that fails nothing more is written, so that what was written is the start of the answers.
+// After a write that fails nothing more is taken up, so that what was written is the start of the answers.
 fn stop_unless(out: &mut Out, written: bool) {
     if !written {
         out.has_stopped = true;

@@ -4,12 +4,12 @@ use Rattle.edges.specs.Leading.Search.{search_says}
 use Rattle.edges.proofs.lead.Goals as goal
 
 pub returns-then-not-edges_long : goal.returns-then-not-edges_long
-returns-then-not-edges_long c = fails (λ l. says_false c.edges_long.ensures (c.if-not-edges_long.true) l.long)
+returns-then-not-edges_long c = fails (λ l. says_false c.edges_long.ensures c.if-not-edges_long.true l.long)
 
 pub first_joining-requires : goal.first_joining-requires
-first_joining-requires c = says_true c.edges_long.ensures (c.if-not-edges_long.false)
+first_joining-requires c = says_true c.edges_long.ensures c.if-not-edges_long.false
 
 pub returns : goal.returns
 returns c =
-    let long = says_true c.edges_long.ensures (c.if-not-edges_long.false) in
+    let long = says_true c.edges_long.ensures c.if-not-edges_long.false in
     says_same (search_says c.first_joining.ensures) (λ l. record { long = long; leads = l }) (λ l. l.leads)

@@ -5,7 +5,7 @@ use Rattle.flow.proofs.passed.Goals as goal
 
 pub returns-then-not-sure : goal.returns-then-not-sure
 unfolding past_num
-returns-then-not-sure c = rw (c.if-not-sure.true)
+returns-then-not-sure c = rw c.if-not-sure.true
 
 pub returns-then-has : goal.returns-then-has
 unfolding past_num

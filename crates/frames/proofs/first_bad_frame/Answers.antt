@@ -7,7 +7,7 @@ pub loop-i-init : goal.loop-i-init
 loop-i-init c = passed_none
 
 pub overflow_cast-stack : goal.overflow_cast-stack
-overflow_cast-stack c = omega (arith, c.shared_slice_known-1.given c.loop-i.i)
+overflow_cast-stack c = omega (arith, c.type_inv.stack c.loop-i.i)
 
 pub returns-then-n-stack : goal.returns-then-n-stack
 returns-then-n-stack c = passed_stop c.loop-i.invariant (λ h. omega (arith, h))

@@ -1,6 +1,5 @@
 -- Lengths are looked at and the graph is judged before anything is stored: a refusal finds the slices as they were, and what is accepted has the
 -- lengths and counts that the copies ask for.
--- ---- the way back from a place
 use Rattle.truth.specs.Truth.Tests.{says_true, says_false}
 use Rattle.handover.specs.Handover.{Lent, lent_of, Room, cramped, refused, accepted}
 use Rattle.handover.specs.Handover.Laws.{held_by, held_fine}
@@ -13,10 +12,10 @@ module _ (c : After-judge_held-judged) where
   lent = lent_of c.args.kinds.now c.args.checks.now c.args.privileged.now c.args.entries.now c.args.grants.now c.args.froms.now c.args.tos.now c.args.ways.now
 
   room : Room lent
-  room = let h = says_true c.has_room.ensures (c.if-not-has_room.false) in record { nodes = h.0; edges = h.1 }
+  room = let h = says_true c.has_room.ensures c.if-not-has_room.false in record { nodes = h.0; edges = h.1 }
 
 pub returns-then-not-has_room : goal.returns-then-not-has_room
-returns-then-not-has_room c = cramped (λ r. says_false c.has_room.ensures (c.if-not-has_room.true) (r.nodes, r.edges))
+returns-then-not-has_room c = cramped (λ r. says_false c.has_room.ensures c.if-not-has_room.true (r.nodes, r.edges))
 
 pub returns-in-Refused : goal.returns-in-Refused
 returns-in-Refused c =

@@ -4,10 +4,10 @@ use native.Mathlib.Omega.{arith}
 use Rattle.judge.proofs.edge_obeys.Goals as goal
 
 pub overflow_cast-from : goal.overflow_cast-from
-overflow_cast-from c = omega (arith, c.shared_slice_known-6-1.given c.args.e)
+overflow_cast-from c = omega (arith, c.type_inv.froms c.args.e)
 
 pub overflow_cast-to : goal.overflow_cast-to
-overflow_cast-to c = omega (arith, c.shared_slice_known-7-1.given c.args.e)
+overflow_cast-to c = omega (arith, c.type_inv.tos c.args.e)
 
 pub returns-then-n-from : goal.returns-then-n-from
 returns-then-n-from c = fails (λ r. omega (arith, r.from_node))

@@ -14,7 +14,7 @@ pub returns-then-height-eq0 : goal.returns-then-height-eq0
 returns-then-height-eq0 c = no_place (λ _ t. c.if-entries-next-eq-MARKED.false t) (λ h _ _. omega (arith, h)) (λ h _ _. omega (arith, h)) (λ h _ _. omega (arith, h))
 
 pub overflow_cast-top : goal.overflow_cast-top
-overflow_cast-top c = omega (arith, c.shared_slice_known-7-1.given (c.args.height - 1))
+overflow_cast-top c = omega (arith, c.type_inv.stack (c.args.height - 1))
 
 pub bounds-kinds-top : goal.bounds-kinds-top
 bounds-kinds-top c = c.requires.frames (c.args.height - 1) (omega arith)
@@ -38,7 +38,7 @@ pub returns-then-height-lt2 : goal.returns-then-height-lt2
 returns-then-height-lt2 c = no_place (λ h _. omega (arith, h)) (λ _ k _. c.if-kind-eq-KIND_CALL.false k) (λ _ k _. c.if-kind-eq-KIND_CHECK.false k) (λ h _ _. omega (arith, h))
 
 pub overflow_cast-lower : goal.overflow_cast-lower
-overflow_cast-lower c = omega (arith, c.shared_slice_known-9-1.given (c.args.height - 2))
+overflow_cast-lower c = omega (arith, c.type_inv.stack (c.args.height - 2))
 
 pub returns-then-lead-3 : goal.returns-then-lead-3
 returns-then-lead-3 c = somewhere (Rule.back (omega arith) c.if-kind-ne-KIND_RETURN.false (leads_so c.lead-2.ensures c.if-lead-3.true))

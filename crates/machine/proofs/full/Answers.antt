@@ -20,12 +20,12 @@ returns-then-not-stack_fits c =
     (stack
     (accepted_is (rw c.in_default.is at c.check-judged.ensures))
     (omega arith)
-    (says_false c.stack_fits.ensures (c.if-not-stack_fits.true)))
+    (says_false c.stack_fits.ensures c.if-not-stack_fits.true))
 
 pub look_full-requires : goal.look_full-requires
 look_full-requires c =
     let a = accepted_is (rw c.in_default.is at c.check-judged.ensures) in
-    let f = says_true c.stack_fits.ensures (c.if-not-stack_fits.false) in
+    let f = says_true c.stack_fits.ensures c.if-not-stack_fits.false in
     let n = a.shape.nodes in
     record { sizes = (f.held, omega (arith, f.held, f.slice), omega (arith, n.privileged, n.grants)); frames = rw n.grants f.nodes }
 
@@ -35,6 +35,6 @@ returns c =
     (record {
       acceptable = accepted_is (rw c.in_default.is at c.check-judged.ensures);
       below = omega arith;
-      fits = says_true c.stack_fits.ensures (c.if-not-stack_fits.false);
+      fits = says_true c.stack_fits.ensures c.if-not-stack_fits.false;
     })
     c.look_full.ensures

@@ -25,7 +25,7 @@ pub bounds-stack-h : goal.bounds-stack-h
 bounds-stack-h c = own (goal.at.bounds-stack-h c).In-loop-h
 
 pub overflow_cast-i : goal.overflow_cast-i
-overflow_cast-i c = omega (arith, c.shared_slice_known-in-loop-h-1.given (top (goal.at.overflow_cast-i c).In-loop-h))
+overflow_cast-i c = omega (arith, c.type_inv.stack (top (goal.at.overflow_cast-i c).In-loop-h))
 
 pub offset_bounds-grants-i : goal.offset_bounds-grants-i
 offset_bounds-grants-i c = omega (arith, node (goal.at.offset_bounds-grants-i c).In-loop-h)

@@ -35,7 +35,7 @@ returns-then-n-next c = Steps.refused (StepRefuses.asks (asked (accepted (goal.a
 pub returns-then-not-stack_fits : goal.returns-then-not-stack_fits
 returns-then-not-stack_fits c =
     Steps.refused
-    (StepRefuses.asks (stack (accepted (goal.at.returns-then-not-stack_fits c).In_default) (omega arith) (says_false c.stack_fits.ensures (c.if-not-stack_fits.true))))
+    (StepRefuses.asks (stack (accepted (goal.at.returns-then-not-stack_fits c).In_default) (omega arith) (says_false c.stack_fits.ensures c.if-not-stack_fits.true)))
 
 pub find_place-requires : goal.find_place-requires
 find_place-requires c =

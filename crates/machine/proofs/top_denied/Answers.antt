@@ -19,7 +19,7 @@ pub returns-then-height-eq0 : goal.returns-then-height-eq0
 returns-then-height-eq0 c = fails (λ d. omega (arith, d.framed))
 
 pub overflow_cast-top : goal.overflow_cast-top
-overflow_cast-top c = omega (arith, c.shared_slice_known-6-1.given (top (goal.at.overflow_cast-top c).Else-height-eq0))
+overflow_cast-top c = omega (arith, c.type_inv.stack (top (goal.at.overflow_cast-top c).Else-height-eq0))
 
 pub bounds-kinds-top : goal.bounds-kinds-top
 bounds-kinds-top c = omega (arith, node (goal.at.bounds-kinds-top c).Else-height-eq0, c.requires.sizes)
@@ -34,7 +34,7 @@ pub bounds-checks-top : goal.bounds-checks-top
 bounds-checks-top c = omega (arith, node (goal.at.bounds-checks-top c).Else-height-eq0, c.requires.sizes)
 
 pub overflow_cast-checks : goal.overflow_cast-checks
-overflow_cast-checks c = omega (arith, c.shared_slice_known-8-1.given (get_or c.args.stack.now (top (goal.at.overflow_cast-checks c).Else-height-eq0) 0))
+overflow_cast-checks c = omega (arith, c.type_inv.checks (get_or c.args.stack.now (top (goal.at.overflow_cast-checks c).Else-height-eq0) 0))
 
 pub returns-in-Passes : goal.returns-in-Passes
 returns-in-Passes c = fails (λ d. clash (passes_says (rw c.in-Passes.is at c.look_full.ensures)) d.fails)

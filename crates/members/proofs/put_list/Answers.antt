@@ -13,7 +13,7 @@ pub returns-then-list-eq0 : goal.returns-then-list-eq0
 returns-then-list-eq0 c = puts_as (sym (spaced_none c.args.list.now c.if-list-eq0.true)) (puts_none (omega arith))
 
 pub overflow_cast-list : goal.overflow_cast-list
-overflow_cast-list c = omega (arith, c.shared_slice_known-2-1.given 0)
+overflow_cast-list c = omega (arith, c.type_inv.list 0)
 
 pub returns : goal.returns
 returns c =

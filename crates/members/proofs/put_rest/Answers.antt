@@ -8,7 +8,7 @@ loop-i-init c = spacing_start (omega arith)
 
 pub overflow_cast-list : goal.overflow_cast-list
 overflow_cast-list c =
-    omega (arith, c.shared_slice_known-in-loop-i-1.given c.loop-i.i)
+    omega (arith, c.type_inv.list c.loop-i.i)
 
 pub loop-i-preserved : goal.loop-i-preserved
 loop-i-preserved c =

@@ -5,17 +5,17 @@ use Rattle.round.proofs.spread.Goals.{Else-not-ends_low}
 use Rattle.round.proofs.spread.Goals as goal
 
 pub returns-then-not-have_room : goal.returns-then-not-have_room
-returns-then-not-have_room c = unspread (λ p. says_false c.have_room.ensures (c.if-not-have_room.true) p.room)
+returns-then-not-have_room c = unspread (λ p. says_false c.have_room.ensures c.if-not-have_room.true p.room)
 
 pub returns-then-not-ends_low : goal.returns-then-not-ends_low
-returns-then-not-ends_low c = unspread (λ p. says_false c.ends_low.ensures (c.if-not-ends_low.true) p.low)
+returns-then-not-ends_low c = unspread (λ p. says_false c.ends_low.ensures c.if-not-ends_low.true p.low)
 
 -- past both tests
 module _ (c : Else-not-ends_low) where
   can : CanSpread c.args.kinds.now c.args.checks.now c.args.privileged.now c.args.grants.now c.args.froms.now c.args.tos.now c.args.ways.now c.args.any.now c.args.ins.now c.args.past.now c.args.out.now
   can = record {
-    room = says_true c.have_room.ensures (c.if-not-have_room.false);
-    low = says_true c.ends_low.ensures (c.if-not-ends_low.false);
+    room = says_true c.have_room.ensures c.if-not-have_room.false;
+    low = says_true c.ends_low.ensures c.if-not-ends_low.false;
   }
 
 pub spread_all-requires : goal.spread_all-requires

@@ -14,7 +14,7 @@ pub returns-then-entry-gt-MARKED : goal.returns-then-entry-gt-MARKED
 returns-then-entry-gt-MARKED c = fails (λ r. omega (arith, r.entry_mark))
 
 pub returns-then-not-check_obeys : goal.returns-then-not-check_obeys
-returns-then-not-check_obeys c = fails (λ r. says_false c.check_obeys.ensures (c.if-not-check_obeys.true) (r.check_below, r.check_none))
+returns-then-not-check_obeys c = fails (λ r. says_false c.check_obeys.ensures c.if-not-check_obeys.true (r.check_below, r.check_none))
 
 pub returns : goal.returns
-returns c = let k = says_true c.check_obeys.ensures (c.if-not-check_obeys.false) in says_same (within_says _ _ (omega arith) c.all.ensures c.within.ensures) (λ x. record { kind_known = omega arith; check_below = k.0; check_none = k.1; privileged_mark = omega arith; entry_mark = omega arith; grants_below = x }) (λ r. r.grants_below)
+returns c = let k = says_true c.check_obeys.ensures c.if-not-check_obeys.false in says_same (within_says _ _ (omega arith) c.all.ensures c.within.ensures) (λ x. record { kind_known = omega arith; check_below = k.0; check_none = k.1; privileged_mark = omega arith; entry_mark = omega arith; grants_below = x }) (λ r. r.grants_below)

@@ -1,5 +1,4 @@
 -- Each short field says what the general reader would read there, so that together they are the row.
--- ---- the places, and how far back each lies
 use Prim.Native.Nat.{◌+◌, ◌/◌, ◌≤◌, ◌<◌}
 use lib.ListN.{length}
 use mathlib.Core.Path.{sym, ◌∙◌, ap}
@@ -17,7 +16,7 @@ use Rattle.shortcuts.proofs.quick_edge.Goals as goal
 -- Room for a row of short fields is looked for first, and every place that is read later lies within it.
 module _ (c : Else-not-has_room) where
   room : c.args.at + 40 ≤ length c.args.s.now
-  room = says_true c.has_room.ensures (c.if-not-has_room.false)
+  room = says_true c.has_room.ensures c.if-not-has_room.false
 
 -- what the three numbers are below
 module _ (c : Else-not-ends_empty) where
@@ -27,8 +26,8 @@ module _ (c : Else-not-ends_empty) where
   to_low : c.short_number-to.result / 8 < 10000
   to_low = form_below number _ _ (short_says c.short_number-to.ensures c.if-to-eq0.false)
 
-  way-low : c.short_way-way.result / 8 < 2
-  way-low = form_below forms.way _ _ (short_says c.short_way-way.ensures c.if-way-eq0.false)
+  way_low : c.short_way-way.result / 8 < 2
+  way_low = form_below forms.way _ _ (short_says c.short_way-way.ensures c.if-way-eq0.false)
 
 pub returns-then-not-has_room : goal.returns-then-not-has_room
 returns-then-not-has_room c = unknown
@@ -79,20 +78,20 @@ pub returns-then-not-ends_empty : goal.returns-then-not-ends_empty
 returns-then-not-ends_empty c = unknown
 
 pub overflow_cast-result : goal.overflow_cast-result
-overflow_cast-result c = omega (arith, from_low (goal.at.overflow_cast-result c).Else-not-ends_empty, to_low (goal.at.overflow_cast-result c).Else-not-ends_empty, way-low (goal.at.overflow_cast-result c).Else-not-ends_empty)
+overflow_cast-result c = omega (arith, from_low (goal.at.overflow_cast-result c).Else-not-ends_empty, to_low (goal.at.overflow_cast-result c).Else-not-ends_empty, way_low (goal.at.overflow_cast-result c).Else-not-ends_empty)
 
 pub overflow_cast-result-2 : goal.overflow_cast-result-2
-overflow_cast-result-2 c = omega (arith, from_low (goal.at.overflow_cast-result-2 c).Else-not-ends_empty, to_low (goal.at.overflow_cast-result-2 c).Else-not-ends_empty, way-low (goal.at.overflow_cast-result-2 c).Else-not-ends_empty)
+overflow_cast-result-2 c = omega (arith, from_low (goal.at.overflow_cast-result-2 c).Else-not-ends_empty, to_low (goal.at.overflow_cast-result-2 c).Else-not-ends_empty, way_low (goal.at.overflow_cast-result-2 c).Else-not-ends_empty)
 
 pub overflow_cast-result-3 : goal.overflow_cast-result-3
-overflow_cast-result-3 c = omega (arith, from_low (goal.at.overflow_cast-result-3 c).Else-not-ends_empty, to_low (goal.at.overflow_cast-result-3 c).Else-not-ends_empty, way-low (goal.at.overflow_cast-result-3 c).Else-not-ends_empty)
+overflow_cast-result-3 c = omega (arith, from_low (goal.at.overflow_cast-result-3 c).Else-not-ends_empty, to_low (goal.at.overflow_cast-result-3 c).Else-not-ends_empty, way_low (goal.at.overflow_cast-result-3 c).Else-not-ends_empty)
 
 pub overflow_add-result : goal.overflow_add-result
 overflow_add-result c = omega (arith, room (goal.at.overflow_add-result c).Else-not-has_room)
 
 pub returns : goal.returns
 returns c =
-    let ends = shows c.ends_empty.ensures (c.if-not-ends_empty.false) in
+    let ends = shows c.ends_empty.ensures c.if-not-ends_empty.false in
     quick_known
     (sym (ap edge_row_of (edge_all _ _ (three_all _ _ _ _
     (letter_form (Tag 69) _ _ 69 0 (omega arith) (tag_says 69) (sym c.short_letter.ensures ∙ c.if-short_letter-ne69.false))

@@ -1,5 +1,4 @@
 -- Each short field says what the general reader would read there, so that together they are the front of the row.
--- ---- the places, and how far back each lies
 use Prim.Native.Nat.{◌+◌, ◌≤◌}
 use lib.ListN.{length}
 use mathlib.Core.Path.{sym, ◌∙◌, ap}
@@ -15,7 +14,7 @@ use Rattle.shortcuts.proofs.quick_lead.Goals as goal
 -- Room for a row of short fields is looked for first, and every place that is read later lies within it.
 module _ (c : Else-not-has_room) where
   room : c.args.at + 40 ≤ length c.args.s.now
-  room = says_true c.has_room.ensures (c.if-not-has_room.false)
+  room = says_true c.has_room.ensures c.if-not-has_room.false
 
 pub returns-then-not-has_room : goal.returns-then-not-has_room
 returns-then-not-has_room c = unknown

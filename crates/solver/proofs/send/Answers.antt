@@ -28,9 +28,10 @@ bring-x-requires c = bringable _ _ _ _ _ _ _ _ _ _ c.requires.sendable (own (goa
 
 pub arrive-t-requires : goal.arrive-t-requires
 arrive-t-requires c =
+    let i = (goal.at.arrive-t-requires c).In-loop-cur in
     let s = c.requires.sendable in
     let to = c.bring-x.ensures.to in
-    (omega (arith, to, ends (goal.at.arrive-t-requires c).In-loop-cur, s.ins_long), omega (arith, to, ends (goal.at.arrive-t-requires c).In-loop-cur, s.past_long))
+    (omega (arith, to, ends i, s.ins_long), omega (arith, to, ends i, s.past_long))
 
 pub offset_bounds-prev-e : goal.offset_bounds-prev-e
 offset_bounds-prev-e c = omega (arith, own (goal.at.offset_bounds-prev-e c).In-loop-cur, c.well_formed)
@@ -39,17 +40,18 @@ pub bounds-prev-e : goal.bounds-prev-e
 bounds-prev-e c = omega (arith, own (goal.at.bounds-prev-e c).In-loop-cur, c.requires.sendable.prev_long)
 
 pub overflow_cast-cur-in-loop-cur : goal.overflow_cast-cur-in-loop-cur
-overflow_cast-cur-in-loop-cur c = omega (arith, c.shared_slice_known-in-loop-cur-1.given (edge (goal.at.overflow_cast-cur-in-loop-cur c).In-loop-cur))
+overflow_cast-cur-in-loop-cur c = omega (arith, c.type_inv.prev (edge (goal.at.overflow_cast-cur-in-loop-cur c).In-loop-cur))
 
 pub loop-cur-smaller : goal.loop-cur-smaller
 loop-cur-smaller c = omega (arith, low (goal.at.loop-cur-smaller c).In-loop-cur)
 
 pub loop-cur-preserved : goal.loop-cur-preserved
 loop-cur-preserved c =
+    let i = (goal.at.loop-cur-preserved c).In-loop-cur in
     let here = c.loop-cur in
     let a = c.arrive-t in (
-      sent_one _ _ _ _ _ _ _ _ _ _ c.requires.sendable.down _ _ _ (edge (goal.at.loop-cur-preserved c).In-loop-cur) _ _ _ (omega arith) (own (goal.at.loop-cur-preserved c).In-loop-cur) c.bring-x.ensures a.ensures ∙ here.invariant.0,
-      omega (arith, own (goal.at.loop-cur-preserved c).In-loop-cur, low (goal.at.loop-cur-preserved c).In-loop-cur),
+      sent_one _ _ _ _ _ _ _ _ _ _ c.requires.sendable.down _ _ _ (edge i) _ _ _ (omega arith) (own i) c.bring-x.ensures a.ensures ∙ here.invariant.0,
+      omega (arith, own i, low i),
       a.auto.ins ∙ here.invariant.2,
       a.auto.past ∙ here.invariant.3,
       a.auto.marks ∙ here.invariant.4,

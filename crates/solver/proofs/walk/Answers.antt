@@ -43,7 +43,9 @@ pub loop-top-init : goal.loop-top-init
 loop-top-init c = (c.requires.walking, refl, refl, refl, refl)
 
 pub bounds-stack-t : goal.bounds-stack-t
-bounds-stack-t c = omega (arith, (walking (goal.at.bounds-stack-t c).In-loop-top).stacked.free, above (goal.at.bounds-stack-t c).In-loop-top)
+bounds-stack-t c =
+    let i = (goal.at.bounds-stack-t c).In-loop-top in
+    omega (arith, (walking i).stacked.free, above i)
 
 pub overflow_cast-i : goal.overflow_cast-i
 overflow_cast-i c = omega (arith, low (goal.at.overflow_cast-i c).In-loop-top)
@@ -68,26 +70,29 @@ bounds-head-i c = omega (arith, low (goal.at.bounds-head-i c).In-loop-top, c.req
 
 pub send-top-requires : goal.send-top-requires
 send-top-requires c =
+    let i = (goal.at.send-top-requires c).In-loop-top in
     record {
-      sendable = sendable (g (goal.at.send-top-requires c).In-loop-top) _ _ _ _ _ c.requires.setting (linked (goal.at.send-top-requires c).In-loop-top) (x (goal.at.send-top-requires c).In-loop-top) (t (goal.at.send-top-requires c).In-loop-top) (above (goal.at.send-top-requires c).In-loop-top) (walking (goal.at.send-top-requires c).In-loop-top) c.requires.lengths.0 c.requires.lengths.3;
-      first_in_bounds = first_low (g (goal.at.send-top-requires c).In-loop-top) _ _ _ _ _ c.requires.setting (linked (goal.at.send-top-requires c).In-loop-top) (x (goal.at.send-top-requires c).In-loop-top) (t (goal.at.send-top-requires c).In-loop-top) (above (goal.at.send-top-requires c).In-loop-top) (walking (goal.at.send-top-requires c).In-loop-top);
+      sendable = sendable (g i) _ _ _ _ _ c.requires.setting (linked i) (x i) (t i) (above i) (walking i) c.requires.lengths.0 c.requires.lengths.3;
+      first_in_bounds = first_low (g i) _ _ _ _ _ c.requires.setting (linked i) (x i) (t i) (above i) (walking i);
     }
 
 -- the turn keeps the invariant, and less is left to do
 pub loop-top-smaller : goal.loop-top-smaller
 loop-top-smaller c =
+    let i = (goal.at.loop-top-smaller c).In-loop-top in
     let v = c.leave-x.ensures in
-    (taken.turn (g (goal.at.loop-top-smaller c).In-loop-top) _ _ _ _ _ c.requires.setting (linked (goal.at.loop-top-smaller c).In-loop-top) (x (goal.at.loop-top-smaller c).In-loop-top) (t (goal.at.loop-top-smaller c).In-loop-top) (above (goal.at.loop-top-smaller c).In-loop-top) (walking (goal.at.loop-top-smaller c).In-loop-top) _ _ v.calls v.moves _ c.send-top.ensures).1
+    (taken.turn (g i) _ _ _ _ _ c.requires.setting (linked i) (x i) (t i) (above i) (walking i) _ _ v.calls v.moves _ c.send-top.ensures).1
 
 pub loop-top-preserved : goal.loop-top-preserved
 loop-top-preserved c =
+    let i = (goal.at.loop-top-preserved c).In-loop-top in
     let v = c.leave-x.ensures in
     let k = c.send-top.auto in
     let o = c.loop-top.invariant in (
-      (taken.turn (g (goal.at.loop-top-preserved c).In-loop-top) _ _ _ _ _ c.requires.setting (linked (goal.at.loop-top-preserved c).In-loop-top) (x (goal.at.loop-top-preserved c).In-loop-top) (t (goal.at.loop-top-preserved c).In-loop-top) (above (goal.at.loop-top-preserved c).In-loop-top) (walking (goal.at.loop-top-preserved c).In-loop-top) _ _ v.calls v.moves _ c.send-top.ensures).0,
+      (taken.turn (g i) _ _ _ _ _ c.requires.setting (linked i) (x i) (t i) (above i) (walking i) _ _ v.calls v.moves _ c.send-top.ensures).0,
       k.ins ∙ o.1,
       k.past ∙ o.2,
-      k.marks ∙ length-set c.loop-top.marks (get_or c.loop-top.stack (t (goal.at.loop-top-preserved c).In-loop-top) 0) 0 ∙ o.3,
+      k.marks ∙ length-set c.loop-top.marks (get_or c.loop-top.stack (t i) 0) 0 ∙ o.3,
       k.stack ∙ o.4,
     )
 

@@ -1,6 +1,5 @@
 -- A first row that is wrong ends it. Else its counts are in range, so that the arrays have places for as many nodes and edges. The node rows are read
 -- first, and where one is wrong its number is the answer; else the edge rows follow where they end.
--- ---- the way back from a place
 use mathlib.Core.Path.{◌≡◌, sym, ◌∙◌}
 use native.Mathlib.Omega.{arith}
 use Rattle.graph.specs.Graph.{Ranges}

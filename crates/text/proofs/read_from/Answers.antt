@@ -1,5 +1,4 @@
 -- The lengths of the slices and of the text are looked at first: what is left is a text that may be read, and slices with room.
--- ---- the way back from a place
 use mathlib.Core.Path.{◌≡◌}
 use native.Mathlib.Omega.{arith}
 use Rattle.handover.specs.Handover.{Lent, lent_of, Room}

@@ -10,7 +10,7 @@ pub loop-i-init : goal.loop-i-init
 loop-i-init c = (omega arith, holds (below_none _))
 
 pub overflow_cast-good : goal.overflow_cast-good
-overflow_cast-good c = omega (arith, c.shared_slice_known-1.given c.loop-i.i)
+overflow_cast-good c = omega (arith, c.type_inv.list c.loop-i.i)
 
 pub loop-i-preserved : goal.loop-i-preserved
 loop-i-preserved c =

@@ -22,9 +22,14 @@ is_old() {
 
 need_kit() { command -v rt >/dev/null || { say 'the Rattle kit (rt) is not on the path'; return 1; }; }
 
+# Passes on what the kit says of a build, but for where it begins, what it runs and its notes.
+say_progress() {
+    sed -un "/^rt: \(note: \|running \|[a-z]*: begins with \)/d; s/^rt: chose --jobs [0-9]* for /$command_name: proving /p; t; s/^rt: /$command_name: /p" >&2
+}
+
 # Proves and builds a program, and runs it over no input: there is no way to build one alone.
 build_program() {
-    (cd "$home/crates/$1" && rt run </dev/null 2>&1 >/dev/null | sed -un "s/^rt: /$command_name: /p" >&2; exit "${PIPESTATUS[0]}") ||
+    (cd "$home/crates/$1" && rt run </dev/null 2>&1 >/dev/null | say_progress; exit "${PIPESTATUS[0]}") ||
         { say 'the program was not proved'; return 1; }
     # A program that came out the same isn't written again.
     touch "$(program_file "$1")"

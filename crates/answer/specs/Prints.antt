@@ -5,13 +5,13 @@ pub mod Gateway
 use Rattle.std.specs.Prelude.{ℕ, ◌≡◌, List}
 use Rattle.graph.specs.Graph.{Slices, Content}
 use Rattle.graph.specs.Refusals.{Numbered}
-use Rattle.records.specs.declared.Node.{Node}
-use Rattle.records.specs.declared.Edge.{Edge}
-use Rattle.text.specs.declared.Reading.{Reading}
+use Rattle.graph.specs.declared.Node.{Node}
+use Rattle.graph.specs.declared.Edge.{Edge}
+use Rattle.text.specs.Text.{Reading}
 use Rattle.handover.specs.Handover.{Lent}
 use Rattle.text.specs.Text.{Outcome, outcome, reading, read, graph_from, Tells}
 use Rattle.text.specs.Text as text
-use Rattle.refusals.specs.declared.Written.{Written}
+use Rattle.graph.specs.Refusals.{Written}
 use Rattle.refusals.specs.Writes.{refusal_row, Writes}
 use Rattle.report.specs.Report.{rows_of}
 

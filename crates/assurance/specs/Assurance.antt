@@ -6,11 +6,10 @@ use Rattle.truth.specs.Truth.Bools.{clash}
 use Rattle.graph.specs.Graph.{Graph, check, Slices, Acceptable, Content}
 use Rattle.graph.specs.Refusals.Laws.{numbered_one}
 use Rattle.graph.specs.declared.Refusal.{Refusal}
-use Rattle.graph.specs.declared.Judged.TheVariants.{Accepted}
+use Rattle.std.specs.Prelude.{Ok, Err}
 use Rattle.solver.specs.Solve.{Solves, solved}
 use Rattle.verdict.specs.Verdict.{SetsLong, Rules, given}
 use Rattle.verdict.specs.declared.Finding.TheVariants.{AlwaysPasses, AlwaysFails, NeverReached}
-use Rattle.verdict.specs.declared.Ruling.TheVariants as ruling
 use Rattle.machine.specs.declared.Inspection.{Inspection}
 use Rattle.machine.specs.declared.Inspection.TheVariants as answer
 use Rattle.stacks.specs.Machine.{rights_of, Inspected, stack_of, Reachable, Agrees, full}
@@ -31,11 +30,11 @@ returns_by fails passes h = absurd (clash refl (sym h.answer))
 returns_by fails fails h = fail h.frames
 
 -- `solve` accepted the graph and stored these slices.
-module _ (g : Graph) {before x : Slices} (stored : Solves g before Accepted x) where
+module _ (g : Graph) {before x : Slices} (stored : Solves g before (Ok tt) x) where
   content : Acceptable g × Content g x
   content = go stored
     where
-      go : Solves g before Accepted x → Acceptable g × Content g x
+      go : Solves g before (Ok tt) x → Acceptable g × Content g x
       go (solved l a c) = (a, c)
 
   long : SetsLong g.size.n (length x.denied) (length x.granted)
@@ -53,11 +52,11 @@ module _ (g : Graph) {before x : Slices} (stored : Solves g before Accepted x) w
 
   -- What `verdict` returned of the check n, on every reachable stack with n on top, of any height.
   module _ {n : ℕ} {r : List ℕ} (h : Reachable g (n ∷ r)) where
-    pub told_always_passes : Rules g x.denied x.granted n (ruling.Given AlwaysPasses) → (full (rights_of g) (check g n) (n ∷ r)).passes ≡ true
+    pub told_always_passes : Rules g x.denied x.granted n (Ok AlwaysPasses) → (full (rights_of g) (check g n) (n ∷ r)).passes ≡ true
     told_always_passes (given v) = always_passes g v.acceptable x content.1 h v.at_check (verdict_at_is g v.acceptable x content.1 n ∙ sym v.number)
 
-    pub told_always_fails : Rules g x.denied x.granted n (ruling.Given AlwaysFails) → (full (rights_of g) (check g n) (n ∷ r)).passes ≡ false
+    pub told_always_fails : Rules g x.denied x.granted n (Ok AlwaysFails) → (full (rights_of g) (check g n) (n ∷ r)).passes ≡ false
     told_always_fails (given v) = always_fails g v.acceptable x content.1 h v.at_check (verdict_at_is g v.acceptable x content.1 n ∙ sym v.number)
 
-    pub told_never_reached : Rules g x.denied x.granted n (ruling.Given NeverReached) → ⊥
+    pub told_never_reached : Rules g x.denied x.granted n (Ok NeverReached) → ⊥
     told_never_reached (given v) = never_reached g v.acceptable x content.1 h v.at_check (verdict_at_is g v.acceptable x content.1 n ∙ sym v.number)

@@ -4,8 +4,8 @@ use Rattle.std.specs.Prelude.{ℕ, ◌≤◌, ◌<◌, cond, ltb}
 use Rattle.graph.specs.Graph.{PerNode, PerEdge, NodesLong, EdgesLong}
 use Rattle.graph.specs.declared.Size.{Size}
 use Rattle.graph.specs.declared.Refusal.TheVariants as why
-use Rattle.graph.specs.declared.Judged.{Judged}
-use Rattle.graph.specs.declared.Judged.TheVariants.{Accepted, Refused}
+use Rattle.graph.specs.Refusals.{Judged}
+use Rattle.std.specs.Prelude.{Ok, Err}
 use Rattle.extent.specs.declared.Ran.{Ran}
 use Rattle.extent.specs.declared.Ran.TheVariants.{Past, Stop}
 use Rattle.extent.specs.declared.Parsed.{Parsed}
@@ -27,9 +27,9 @@ most_bytes = 65536
 
 -- 1 for the slices' lengths, then 12 for the text's.
 pub data SizesSo (x : PerNode ℕ) (y : PerEdge ℕ) (text : ℕ) : Judged → Type 0 where
-  cramped : (Ample x y → ⊥) → SizesSo x y text (Refused why.Shape)
-  long : Ample x y → most_bytes < text → SizesSo x y text (Refused why.TooLong)
-  fit : Ample x y → text ≤ most_bytes → SizesSo x y text Accepted
+  cramped : (Ample x y → ⊥) → SizesSo x y text (Err why.Shape)
+  long : Ample x y → most_bytes < text → SizesSo x y text (Err why.TooLong)
+  fit : Ample x y → text ≤ most_bytes → SizesSo x y text (Ok tt)
 
 abbrev pub on_ran : {Y : Type 0} → Ran → (ℕ → Y) → (ℕ → Y) → Y
 on_ran (Stop row) f g = f row

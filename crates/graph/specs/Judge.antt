@@ -7,8 +7,8 @@ use Rattle.graph.specs.declared.Size.{Size}
 use Rattle.graph.specs.Refusals.{Numbered, ◌at◌, numbered}
 use Rattle.graph.specs.declared.Refusal.{Refusal}
 use Rattle.graph.specs.declared.Refusal.TheVariants as why
-use Rattle.graph.specs.declared.Judged.{Judged}
-use Rattle.graph.specs.declared.Judged.TheVariants.{Accepted, Refused}
+use Rattle.graph.specs.Refusals.{Judged}
+use Rattle.std.specs.Prelude.{Ok, Err}
 
 -- The lowest number that applies is given, with its place.
 pub data Refuses (g : Graph) : Numbered → Type 0 where
@@ -18,8 +18,8 @@ pub data Refuses (g : Graph) : Numbered → Type 0 where
   entry : Shape g → All (NodeObeys g) g.size.n → All (EdgeObeys g) g.size.m → All (NoEntry g.nodes.entries) g.size.n → Refuses g (4 at 0)
 
 pub data Judges (g : Graph) : Judged → Type 0 where
-  accepted : Acceptable g → Judges g Accepted
-  refused : {r : Refusal} → Refuses g (numbered r) → Judges g (Refused r)
+  accepted : Acceptable g → Judges g (Ok tt)
+  refused : {r : Refusal} → Refuses g (numbered r) → Judges g (Err r)
 
 -- ---- The same as a computation
 
@@ -56,7 +56,7 @@ judge g =
     let i = first (node_test g) g.size.n in
     let e = first (edge_test g) g.size.m in
     cond (shape_test g)
-    (cond (ltb i g.size.n) (Refused (why.Node i))
-    (cond (ltb e g.size.m) (Refused (why.Edge e))
-    (cond (ltb (first (no_entry g) g.size.n) g.size.n) Accepted (Refused why.NoEntry))))
-    (Refused why.Shape)
+    (cond (ltb i g.size.n) (Err (why.Node i))
+    (cond (ltb e g.size.m) (Err (why.Edge e))
+    (cond (ltb (first (no_entry g) g.size.n) g.size.n) (Ok tt) (Err why.NoEntry))))
+    (Err why.Shape)

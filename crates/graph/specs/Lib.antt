@@ -1,3 +1,4 @@
 pub mod Graph
 pub mod Refusals
 pub mod Judge
+pub mod Lent

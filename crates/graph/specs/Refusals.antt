@@ -1,6 +1,6 @@
 -- The refusals: the number and the place that go with each. Definitions alone.
 pub mod Laws
-use Rattle.std.specs.Prelude.{ℕ}
+use Rattle.std.specs.Prelude.{ℕ, Result, ⊤}
 use Rattle.graph.specs.declared.Refusal.{Refusal}
 use Rattle.graph.specs.declared.Refusal.TheVariants.{Shape, Node, Edge, NoEntry, Asked, Stack, NotACheck, NoRule, Denied, NoRoom, Row, TooLong}
 
@@ -26,3 +26,10 @@ numbered Denied = 9 at 0
 numbered NoRoom = 10 at 0
 numbered (Row i) = 11 at i
 numbered TooLong = 12 at 0
+
+-- What a call answers that gives nothing but its consent, and one that says how many bytes it wrote; or else why it refuses.
+abbrev pub Judged : Type 0
+Judged = Result ⊤ Refusal
+
+abbrev pub Written : Type 0
+Written = Result ℕ Refusal

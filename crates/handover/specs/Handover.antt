@@ -9,8 +9,8 @@ use Rattle.extent.specs.Extent.{most_nodes, most_edges}
 use Rattle.graph.specs.declared.Size.{Size}
 use Rattle.graph.specs.declared.Refusal.{Refusal}
 use Rattle.graph.specs.declared.Refusal.TheVariants as why
-use Rattle.graph.specs.declared.Judged.{Judged}
-use Rattle.graph.specs.declared.Judged.TheVariants.{Accepted, Refused}
+use Rattle.graph.specs.Refusals.{Judged}
+use Rattle.std.specs.Prelude.{Ok, Err}
 
 -- The slices that a caller lends.
 pub record Lent : Type 0 where
@@ -53,11 +53,11 @@ pub record Copied (c : Size) (held before after : Lent) : Type 0 where
 
 -- What slices are judged for what their first places hold: 1 without room, and else as that graph is judged.
 pub data HeldJudged (c : Size) (held : Lent) : Judged → Type 0 where
-  bare : (Room held → ⊥) → HeldJudged c held (Refused why.Shape)
+  bare : (Room held → ⊥) → HeldJudged c held (Err why.Shape)
   judged : {j : Judged} → Room held → Judges (held_graph c held) j → HeldJudged c held j
 
 -- The same of what is handed over, with 1 for lent slices without room. A refusal stores nothing.
 pub data HandsOver (c : Size) (held before : Lent) : Judged → Lent → Type 0 where
-  cramped : (Room before → ⊥) → HandsOver c held before (Refused why.Shape) before
-  refused : {r : Refusal} → Room before → HeldJudged c held (Refused r) → HandsOver c held before (Refused r) before
-  accepted : {after : Lent} → Room before → HeldJudged c held Accepted → Copied c held before after → HandsOver c held before Accepted after
+  cramped : (Room before → ⊥) → HandsOver c held before (Err why.Shape) before
+  refused : {r : Refusal} → Room before → HeldJudged c held (Err r) → HandsOver c held before (Err r) before
+  accepted : {after : Lent} → Room before → HeldJudged c held (Ok tt) → Copied c held before after → HandsOver c held before (Ok tt) after

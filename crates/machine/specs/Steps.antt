@@ -7,10 +7,13 @@ use Rattle.std.specs.Prelude.{ℕ, ◌<◌, ◌+◌, ◌-◌, ◌≡◌, List, t
 use Rattle.graph.specs.Graph.{Graph, PerEdge, LeadsIn}
 use Rattle.graph.specs.Refusals.{Numbered, ◌at◌, numbered}
 use Rattle.graph.specs.declared.Refusal.{Refusal}
-use Rattle.machine.specs.declared.Stepped.{Stepped}
-use Rattle.machine.specs.declared.Stepped.TheVariants as answer
+use Rattle.std.specs.Prelude.{Result, Ok, Err}
 use Rattle.stacks.specs.Machine.{stack_of, Rights, rights_of, full}
 use Rattle.machine.specs.Inspect.{Asks, AskRefuses}
+
+-- The new height of the stack, or why there is none.
+abbrev pub Stepped : Type 0
+Stepped = Result ℕ Refusal
 
 -- The node on top of the stack, and the node of the frame below it.
 abbrev pub top : (stack : List ℕ) (height : ℕ) → ℕ
@@ -50,6 +53,6 @@ pub data StepRefuses (g : Graph) (stack : List ℕ) (height next : ℕ) : Number
 
 -- The answer, and what the slice holds after it. A refusal writes nothing; a step writes one place.
 pub data Steps (g : Graph) (stack : List ℕ) (height next : ℕ) : Stepped → List ℕ → Type 0 where
-  refused : {r : Refusal} → StepRefuses g stack height next (numbered r) → Steps g stack height next (answer.Refused r) stack
+  refused : {r : Refusal} → StepRefuses g stack height next (numbered r) → Steps g stack height next (Err r) stack
   moved : {place : ℕ} → Asks g (next < g.size.n) stack height → RuleOf g stack height next place → (DeniedOf g stack height → ⊥) → place < length stack
-      → Steps g stack height next (answer.Moved (place + 1)) (set stack place next)
+      → Steps g stack height next (Ok (place + 1)) (set stack place next)

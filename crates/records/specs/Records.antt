@@ -13,10 +13,10 @@ use Rattle.fields.specs.Fields.{G, N, E, most_digits, form_at, end_at}
 use Rattle.graph.specs.Graph.{size_of}
 use Rattle.graph.specs.Judge.{range_test}
 use Rattle.graph.specs.declared.Size.{Size}
-use Rattle.records.specs.declared.Node.{Node}
+use Rattle.graph.specs.declared.Node.{Node}
 use Rattle.records.specs.declared.NodeRow.{NodeRow}
 use Rattle.records.specs.declared.NodeRow.TheVariants as node
-use Rattle.records.specs.declared.Edge.{Edge}
+use Rattle.graph.specs.declared.Edge.{Edge}
 use Rattle.records.specs.declared.EdgeRow.{EdgeRow}
 use Rattle.records.specs.declared.EdgeRow.TheVariants as edge
 use Rattle.records.specs.declared.Header.{Header}

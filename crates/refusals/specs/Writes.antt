@@ -6,8 +6,8 @@ use Rattle.writer.specs.Writer.{decimal}
 use Rattle.graph.specs.Refusals.{numbered}
 use Rattle.graph.specs.declared.Refusal.{Refusal}
 use Rattle.graph.specs.declared.Refusal.TheVariants as why
-use Rattle.refusals.specs.declared.Written.{Written}
-use Rattle.refusals.specs.declared.Written.TheVariants.{Bytes, Refused}
+use Rattle.graph.specs.Refusals.{Written}
+use Rattle.std.specs.Prelude.{Ok, Err}
 
 -- "refused,".
 abbrev pub refused_bytes : List ℕ
@@ -19,7 +19,7 @@ refusal_row number place = refused_bytes ++ decimal number ++ 44 ∷ decimal pla
 abbrev pub refusal_bytes : Refusal → List ℕ
 refusal_bytes r = refusal_row (numbered r).number (numbered r).place
 
--- Bytes at the start of a buffer, and how many; or refusal 10 where it is too short for them, and nothing stored.
+-- Ok at the start of a buffer, and how many; or refusal 10 where it is too short for them, and nothing stored.
 pub data Writes (bytes before : List ℕ) : Written → List ℕ → Type 0 where
-  written : length bytes ≤ length before → Writes bytes before (Bytes (length bytes)) (sets before 0 bytes)
-  too_short : (length bytes ≤ length before → ⊥) → Writes bytes before (Refused why.NoRoom) before
+  written : length bytes ≤ length before → Writes bytes before (Ok (length bytes)) (sets before 0 bytes)
+  too_short : (length bytes ≤ length before → ⊥) → Writes bytes before (Err why.NoRoom) before

@@ -5,9 +5,8 @@ use Rattle.std.specs.Prelude.{List, ℕ}
 use Rattle.graph.specs.Graph.{Graph, Acceptable, Slices, Content}
 use Rattle.graph.specs.Judge.{Judges}
 use Rattle.graph.specs.declared.Refusal.{Refusal}
-use Rattle.graph.specs.declared.Judged.TheVariants as judged
-use Rattle.refusals.specs.declared.Written.{Written}
-use Rattle.refusals.specs.declared.Written.TheVariants as written
+use Rattle.std.specs.Prelude.{Ok, Err}
+use Rattle.graph.specs.Refusals.{Written}
 use Rattle.refusals.specs.Writes.{Writes}
 use Rattle.rows.specs.Result.{result_bytes}
 
@@ -18,4 +17,4 @@ rows_of g s = result_bytes g.size.n g.nodes.kinds g.nodes.checks s.denied s.gran
 -- The rows of a graph, by the sets that solve it, stand at the start of a buffer; or the graph is refused, and nothing is stored.
 pub data WritesGraph (g : Graph) (before : List ℕ) : Written → List ℕ → Type 0 where
   rows : {t : Slices} {r : Written} {after : List ℕ} → Acceptable g → Content g t → Writes (rows_of g t) before r after → WritesGraph g before r after
-  no_graph : {r : Refusal} → Judges g (judged.Refused r) → WritesGraph g before (written.Refused r) before
+  no_graph : {r : Refusal} → Judges g (Err r) → WritesGraph g before (Err r) before

@@ -7,8 +7,8 @@ use Rattle.writer.specs.Writer.{decimal}
 use Rattle.members.specs.Members.{set_bytes}
 use Rattle.graph.specs.Graph.{verdict_of}
 use Rattle.graph.specs.declared.Refusal.TheVariants as why
-use Rattle.refusals.specs.declared.Written.{Written}
-use Rattle.refusals.specs.declared.Written.TheVariants.{Refused}
+use Rattle.graph.specs.Refusals.{Written}
+use Rattle.std.specs.Prelude.{Ok, Err}
 use Rattle.refusals.specs.Writes.{Writes}
 
 -- ---- Rows
@@ -48,6 +48,6 @@ pub record Long (n kinds checks denied granted : ℕ) : Type 0 where
 
 -- Refusal 1 for the slices' lengths comes first.
 pub data WritesResult (n : ℕ) (kinds checks denied granted before : List ℕ) : Written → List ℕ → Type 0 where
-  shape : (Long n (length kinds) (length checks) (length denied) (length granted) → ⊥) → WritesResult n kinds checks denied granted before (Refused why.Shape) before
+  shape : (Long n (length kinds) (length checks) (length denied) (length granted) → ⊥) → WritesResult n kinds checks denied granted before (Err why.Shape) before
   result : {r : Written} {after : List ℕ} → Long n (length kinds) (length checks) (length denied) (length granted) → Writes (result_bytes n kinds checks denied granted) before r after
       → WritesResult n kinds checks denied granted before r after

@@ -6,8 +6,8 @@ use Rattle.graph.specs.Graph.{Graph, Acceptable, Slices, Content, ResultsLong}
 use Rattle.graph.specs.Refusals.{Numbered, ◌at◌, numbered}
 use Rattle.graph.specs.Judge.{Refuses}
 use Rattle.graph.specs.declared.Refusal.{Refusal}
-use Rattle.graph.specs.declared.Judged.{Judged}
-use Rattle.graph.specs.declared.Judged.TheVariants.{Accepted, Refused}
+use Rattle.graph.specs.Refusals.{Judged}
+use Rattle.std.specs.Prelude.{Ok, Err}
 
 abbrev pub slices : (denied granted may_out sure_out : List ℕ) → Slices
 slices denied granted may_out sure_out = record { denied = denied; granted = granted; may_out = may_out; sure_out = sure_out }
@@ -23,5 +23,5 @@ pub data SolveRefuses (g : Graph) (s : Slices) : Numbered → Type 0 where
 
 -- The answer, and what the slices hold after it where they held s before. A refusal stores nothing.
 pub data Solves (g : Graph) (s : Slices) : Judged → Slices → Type 0 where
-  refused : {r : Refusal} → SolveRefuses g s (numbered r) → Solves g s (Refused r) s
-  solved : {t : Slices} → Long g s → Acceptable g → Content g t → Solves g s Accepted t
+  refused : {r : Refusal} → SolveRefuses g s (numbered r) → Solves g s (Err r) s
+  solved : {t : Slices} → Long g s → Acceptable g → Content g t → Solves g s (Ok tt) t

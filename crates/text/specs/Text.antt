@@ -10,16 +10,18 @@ use Rattle.graph.specs.Graph.{Graph, size_of, PerNode, PerEdge, nodes_of, edges_
 use Rattle.graph.specs.Refusals.{Numbered, ◌at◌, numbered}
 use Rattle.graph.specs.Judge.{judge}
 use Rattle.graph.specs.declared.Refusal.{Refusal}
-use Rattle.graph.specs.declared.Judged.{Judged}
-use Rattle.graph.specs.declared.Judged.TheVariants as judged
-use Rattle.records.specs.declared.Node.{Node}
-use Rattle.records.specs.declared.Edge.{Edge}
+use Rattle.graph.specs.Refusals.{Judged}
+use Rattle.std.specs.Prelude.{Result, Ok, Err}
+use Rattle.graph.specs.declared.Node.{Node}
+use Rattle.graph.specs.declared.Edge.{Edge}
 use Rattle.graph.specs.declared.Size.{Size}
 use Rattle.extent.specs.Extent.{most_bytes}
 use Rattle.handover.specs.Handover.{Lent, roomy, NodesWritten, EdgesWritten}
-use Rattle.text.specs.declared.Reading.{Reading}
-use Rattle.text.specs.declared.Reading.TheVariants as answer
 use Rattle.records.specs.Records.{Got, got, no, on_got, header_at, node_at, edge_at}
+
+-- The size of the graph that was read, or why there is none.
+abbrev pub Reading : Type 0
+Reading = Result Size Refusal
 
 -- ---- A text
 
@@ -77,8 +79,8 @@ pub data Outcome : Type 0 where
   refused : Numbered → Outcome
 
 abbrev pub on_judged : Judged → (k : ℕ) → List Node → List Edge → Outcome
-on_judged judged.Accepted k ns es = read k ns es
-on_judged (judged.Refused r) k ns es = refused (numbered r)
+on_judged (Ok tt) k ns es = read k ns es
+on_judged (Err r) k ns es = refused (numbered r)
 
 abbrev pub on_meaning : Meaning → Outcome
 on_meaning (wrong row) = refused (11 at row)
@@ -108,5 +110,5 @@ pub record Stores (before : Lent) (ns : List Node) (es : List Edge) (after : Len
 -- The answer that says what is read, and what the slices hold after it: a refusal stores nothing.
 pub data Tells (o : Outcome) (before : Lent) : Reading → Lent → Type 0 where
   stored : {k : ℕ} {ns : List Node} {es : List Edge} {after : Lent} → o ≡ read k ns es → Stores before ns es after
-      → Tells o before (answer.Graph (size_of k (length ns) (length es))) after
-  refuses : {r : Refusal} → o ≡ refused (numbered r) → Tells o before (answer.Refused r) before
+      → Tells o before (Ok (size_of k (length ns) (length es))) after
+  refuses : {r : Refusal} → o ≡ refused (numbered r) → Tells o before (Err r) before

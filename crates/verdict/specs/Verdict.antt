@@ -9,8 +9,11 @@ use Rattle.graph.specs.Judge.{Refuses}
 use Rattle.graph.specs.declared.Refusal.{Refusal}
 use Rattle.verdict.specs.declared.Finding.{Finding}
 use Rattle.verdict.specs.declared.Finding.TheVariants.{Needed, AlwaysPasses, AlwaysFails, NeverReached}
-use Rattle.verdict.specs.declared.Ruling.{Ruling}
-use Rattle.verdict.specs.declared.Ruling.TheVariants as ruling
+use Rattle.std.specs.Prelude.{Result, Ok, Err}
+
+-- A verdict, or why there is none.
+abbrev pub Ruling : Type 0
+Ruling = Result Finding Refusal
 
 abbrev pub verdict_number : Finding → ℕ
 verdict_number Needed = 0
@@ -38,5 +41,5 @@ pub record VerdictGiven (g : Graph) (denied granted : List ℕ) (n : ℕ) (v : F
   pub number : verdict_number v ≡ verdict_of (has (get_or denied n 0) (check g n)) (has (get_or granted n 0) (check g n))
 
 pub data Rules (g : Graph) (denied granted : List ℕ) (n : ℕ) : Ruling → Type 0 where
-  refused : {r : Refusal} → VerdictRefuses g denied granted n (numbered r) → Rules g denied granted n (ruling.Refused r)
-  given : {v : Finding} → VerdictGiven g denied granted n v → Rules g denied granted n (ruling.Given v)
+  refused : {r : Refusal} → VerdictRefuses g denied granted n (numbered r) → Rules g denied granted n (Err r)
+  given : {v : Finding} → VerdictGiven g denied granted n v → Rules g denied granted n (Ok v)

@@ -11,7 +11,7 @@ use Rattle.graph.specs.Graph.Gateway.{gateway, gateway_slices}
 use Rattle.graph.proofs.Graph.Gateway.{gateway_accepted, gateway_content}
 use Rattle.graph.specs.Judge.{judge, Judges}
 use Rattle.graph.specs.Judge.Laws.{judges_judge}
-use Rattle.graph.specs.declared.Judged.{Judged}
+use Rattle.graph.specs.Refusals.{Judged}
 use Rattle.text.specs.Text.{on_meaning, on_judged, outcome_from, outcome, read}
 use Rattle.text.specs.Text.Gateway.{gateway_text, gateway_nodes, gateway_edges, gateway_means, gateway_graph}
 use Rattle.writer.specs.Writer.{decimal_by}

@@ -12,19 +12,17 @@ use Rattle.graph.proofs.Graph.Results.{content_one, content_exists}
 use Rattle.graph.specs.Refusals.{Numbered, ◌at◌}
 use Rattle.graph.specs.declared.Size.{Size}
 use Rattle.graph.specs.declared.Refusal.{Refusal}
-use Rattle.records.specs.declared.Node.{Node}
-use Rattle.records.specs.declared.Edge.{Edge}
-use Rattle.text.specs.declared.Reading.{Reading}
-use Rattle.text.specs.declared.Reading.TheVariants as answer
+use Rattle.graph.specs.declared.Node.{Node}
+use Rattle.graph.specs.declared.Edge.{Edge}
+use Rattle.text.specs.Text.{Reading}
+use Rattle.std.specs.Prelude.{Ok, Err}
 use Rattle.handover.specs.Handover.{Lent, Room, roomy, held_graph}
 use Rattle.handover.specs.Handover.Laws.{room?}
 use Rattle.text.specs.Text.{Outcome, outcome_from, outcome, reading_from, reading, read, node_columns, graph_from, Stores, Tells, stored, refuses}
 use Rattle.text.specs.Text as text
 use Rattle.text.specs.Text.Parts.{Places}
 use Rattle.text.specs.Text.Laws.{reading_roomy, outcome_accepted, stores_room, stored_held, reads_one}
-use Rattle.refusals.specs.declared.Written.{Written}
-use Rattle.refusals.specs.declared.Written.TheVariants as written
-use Rattle.refusals.specs.declared.Written.TheVariants.{Bytes}
+use Rattle.graph.specs.Refusals.{Written}
 use Rattle.refusals.specs.Writes.{Writes, written, too_short, refusal_bytes, refusal_row}
 use Rattle.refusals.specs.Writes.Laws.{writes_one}
 use Rattle.refusals.specs.Writes.Laws.{refusal_short}
@@ -82,24 +80,24 @@ prints_short s (refused {x} e) = omega (arith, refusal_short x.number x.place)
 prints_short s (printed {k = k} {ns = ns} {es = es} {t = t} e c) =
     omega (arith, (outcome_accepted s 0 1 e).shape.ranges.n_high, result_short (node_columns ns).kinds (node_columns ns).checks t.denied t.granted (length ns))
 
-writes_low : {bytes before after : List ℕ} {n : ℕ} → Writes bytes before (Bytes n) after → n ≤ length before
+writes_low : {bytes before after : List ℕ} {n : ℕ} → Writes bytes before (Ok n) after → n ≤ length before
 writes_low (written h) = h
 
-writes_not : {bytes before after : List ℕ} {r : Refusal} → Writes bytes before (written.Refused r) after → length bytes ≤ length before → ⊥
+writes_not : {bytes before after : List ℕ} {r : Refusal} → Writes bytes before (Err r) after → length bytes ≤ length before → ⊥
 writes_not (too_short d) h = d h
 
 -- what is to be printed lies within the buffer
-pub answers_low : {o : Outcome} {before after : List ℕ} {n : ℕ} → AnswersFor o before (Bytes n) after → n ≤ length before
+pub answers_low : {o : Outcome} {before after : List ℕ} {n : ℕ} → AnswersFor o before (Ok n) after → n ≤ length before
 answers_low a = writes_low a.writes
 
-pub answers_fit : (s : List ℕ) {before after : List ℕ} {r : Refusal} → Answers s before (written.Refused r) after → 440000 ≤ length before → ⊥
+pub answers_fit : (s : List ℕ) {before after : List ℕ} {r : Refusal} → Answers s before (Err r) after → 440000 ≤ length before → ⊥
 answers_fit s a h = writes_not a.writes (omega (arith, prints_short s a.prints, h))
 
 -- and it is that
-writes_part : {bytes before after : List ℕ} {n : ℕ} → Writes bytes before (Bytes n) after → first n after ≡ bytes
+writes_part : {bytes before after : List ℕ} {n : ℕ} → Writes bytes before (Ok n) after → first n after ≡ bytes
 writes_part {bytes} {before} (written h) = ap (λ i. take i (sets before 0 bytes)) (sub-zero (length bytes)) ∙ take_sets before bytes h
 
-pub answers_part : {o : Outcome} {before after : List ℕ} {n : ℕ} → AnswersFor o before (Bytes n) after → PrintsFor o (first n after)
+pub answers_part : {o : Outcome} {before after : List ℕ} {n : ℕ} → AnswersFor o before (Ok n) after → PrintsFor o (first n after)
 answers_part {o} a = subst (PrintsFor o) (sym (writes_part a.writes)) a.prints
 
 -- ---- a text above 65,536 bytes
@@ -116,13 +114,13 @@ long_text : (n : ℕ) → (s : List ℕ) × (n < length s)
 long_text n = (replicate (suc n) 0, omega (arith, length-replicate {A = ℕ} (suc n) 0))
 
 module _ {before after : List ℕ} where
-  pub long_low : {n : ℕ} → ((s : List ℕ) → 65536 < length s → Answers s before (Bytes n) after) → n ≤ length before
+  pub long_low : {n : ℕ} → ((s : List ℕ) → 65536 < length s → Answers s before (Ok n) after) → n ≤ length before
   long_low h = let t = long_text 65536 in answers_low (h t.0 t.1)
 
-  pub long_part : {n : ℕ} → ((s : List ℕ) → 65536 < length s → Answers s before (Bytes n) after) → (s : List ℕ) → 65536 < length s → Prints s (first n after)
+  pub long_part : {n : ℕ} → ((s : List ℕ) → 65536 < length s → Answers s before (Ok n) after) → (s : List ℕ) → 65536 < length s → Prints s (first n after)
   long_part h s l = answers_part (h s l)
 
-  pub long_fit : {r : Refusal} → ((s : List ℕ) → 65536 < length s → Answers s before (written.Refused r) after) → 51 ≤ length before → ⊥
+  pub long_fit : {r : Refusal} → ((s : List ℕ) → 65536 < length s → Answers s before (Err r) after) → 51 ≤ length before → ⊥
   long_fit h k =
       let t = long_text 65536 in
       writes_not (answers_by (long_prints t.0 t.1) (h t.0 t.1)) (omega (arith, refusal_short 12 0))
@@ -138,7 +136,7 @@ read_room x s e = by_split (roomy x) (λ t. says_true (room? x) t) (λ t. absurd
 same_graph : (c : Size) (x : Lent) → lent_graph c x ≡ held_graph c x
 same_graph c x = rw (sub-zero c.n, sub-zero c.m) refl
 
-places_as : {y : Lent} {c d : Size} → answer.Graph d ≡ answer.Graph c → Places d y → Places c y
+places_as : {y : Lent} {c d : Size} → Ok d ≡ Ok c → Places d y → Places c y
 places_as {y} {c} {d} e p = let u : d ≡ c = cc in subst (λ i. Places i y) u p
 
 module _ {x y : Lent} (s : List ℕ) where

@@ -3,7 +3,7 @@ use Rattle.std.specs.Prelude.{ℕ, ◌≤◌, ◌<◌, ◌≡◌, refl}
 use Rattle.std.proofs.Common.{arith}
 use borrow.Author.Tests.{lt-ltb, le-ltb}
 use Rattle.graph.specs.Graph.{PerNode, PerEdge}
-use Rattle.graph.specs.declared.Judged.{Judged}
+use Rattle.graph.specs.Refusals.{Judged}
 use Rattle.graph.specs.declared.Size.{Size}
 use Rattle.extent.specs.declared.Ran.{Ran}
 use Rattle.extent.specs.declared.Ran.TheVariants.{Past, Stop}

@@ -5,7 +5,7 @@ use Rattle.graph.specs.Graph.{Graph, Acceptable, denied_set, granted_set, Slices
 use Rattle.graph.specs.Graph.Rounds.{written, may_rounds, sure_rounds}
 use Rattle.graph.specs.Judge.{judge}
 use Rattle.graph.specs.Judge.Laws.{judge_judges, accepted_is}
-use Rattle.graph.specs.declared.Judged.TheVariants.{Accepted}
+use Rattle.std.specs.Prelude.{Ok}
 
 -- rounds, one more of each, and the nodes' sets
 abbrev pub computed_sets : Graph → Slices → (i j : ℕ) → List (List ℕ)
@@ -18,7 +18,7 @@ stored_sets s = s.may_out ∷ s.may_out ∷ s.sure_out ∷ s.sure_out ∷ s.deni
 
 -- g is accepted, and its MAY rounds are at rest after i of them, its SURE rounds after j, with what s holds
 pub record Computed (g : Graph) (s : Slices) (i j : ℕ) : Type 0 where
-  pub accepted : judge g ≡ Accepted
+  pub accepted : judge g ≡ (Ok tt)
   pub sets : computed_sets g s i j ≡ stored_sets s
 
 module _ (g : Graph) (s : Slices) (i j : ℕ) (c : Computed g s i j) where

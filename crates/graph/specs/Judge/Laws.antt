@@ -14,8 +14,8 @@ use Rattle.graph.specs.Refusals.Laws.{refusal, refusal_numbered}
 use Rattle.graph.specs.Judge.{Refuses, shape, node, edge, entry, Judges, accepted, refused, range_test, shape_test, node_test, edge_test, no_entry, judge}
 use Rattle.graph.specs.declared.Refusal.{Refusal}
 use Rattle.graph.specs.declared.Refusal.TheVariants as why
-use Rattle.graph.specs.declared.Judged.{Judged}
-use Rattle.graph.specs.declared.Judged.TheVariants.{Accepted, Refused}
+use Rattle.graph.specs.Refusals.{Judged}
+use Rattle.std.specs.Prelude.{Ok, Err}
 
 -- ---- each test says whether its rule holds
 
@@ -91,17 +91,17 @@ entry? g n = not? (eq? (get_or g.nodes.entries n 0) 1)
 
 -- ---- the answer that the searches lead to
 
-pub edge_given : (g : Graph) {i e : ℕ} → Shape g → First (NodeObeys g) g.size.n i → g.size.n ≤ i → e < g.size.m → First (EdgeObeys g) g.size.m e → Judges g (Refused (why.Edge e))
+pub edge_given : (g : Graph) {i e : ℕ} → Shape g → First (NodeObeys g) g.size.n i → g.size.n ≤ i → e < g.size.m → First (EdgeObeys g) g.size.m e → Judges g (Err (why.Edge e))
 edge_given g s fi h l fe = refused (edge s (first_all fi h) l fe)
 
 module _ (g : Graph) {i e r : ℕ} (s : Shape g) (fi : First (NodeObeys g) g.size.n i) (hi : g.size.n ≤ i) (fe : First (EdgeObeys g) g.size.m e) (he : g.size.m ≤ e) (fr : First (NoEntry g.nodes.entries) g.size.n r) where
   marked : (NoEntry g.nodes.entries r → ⊥) → get_or g.nodes.entries r 0 ≡ 1
   marked d = by_split (eqb (get_or g.nodes.entries r 0) 1) (eqb-true _ 1) (λ f. absurd (d (eqb-false _ 1 f)))
 
-  pub accepted_given : r < g.size.n → Judges g Accepted
+  pub accepted_given : r < g.size.n → Judges g (Ok tt)
   accepted_given l = accepted (record { shape = s; nodes = first_all fi hi; edges = first_all fe he; entered = (r, l, marked (fr.broken l)) })
 
-  pub entry_given : g.size.n ≤ r → Judges g (Refused why.NoEntry)
+  pub entry_given : g.size.n ≤ r → Judges g (Err why.NoEntry)
   entry_given h = refused (entry s (first_all fi hi) (first_all fe he) (first_all fr h))
 
 pub judge_judges : (g : Graph) → Judges g (judge g)
@@ -115,7 +115,7 @@ judge_judges g =
     go : (s : Bool) → Says (Shape g) s → (i : ℕ) → First (NodeObeys g) g.size.n i → (a : Bool) → Says (i < g.size.n) a
         → (e : ℕ) → First (EdgeObeys g) g.size.m e → (b : Bool) → Says (e < g.size.m) b
         → (r : ℕ) → First (NoEntry g.nodes.entries) g.size.n r → (d : Bool) → Says (r < g.size.n) d
-        → Judges g (cond s (cond a (Refused (why.Node i)) (cond b (Refused (why.Edge e)) (cond d Accepted (Refused why.NoEntry)))) (Refused why.Shape))
+        → Judges g (cond s (cond a (Err (why.Node i)) (cond b (Err (why.Edge e)) (cond d (Ok tt) (Err why.NoEntry)))) (Err why.Shape))
     go false (fails s) i fi a _ e fe b _ r fr d _ = refused (shape s)
     go true (holds s) i fi true (holds p) e fe b _ r fr d _ = refused (node s p fi)
     go true (holds s) i fi false (fails p) e fe true (holds q) r fr d _ = edge_given g s fi (omega arith) q fe
@@ -131,7 +131,7 @@ module _ (g : Graph) where
   all_edges : All (EdgeObeys g) g.size.m → ltb (first (edge_test g) g.size.m) g.size.m ≡ false
   all_edges a = le-ltb _ _ (all_first (first? (edge_test g) (edge? g) g.size.m) a)
 
-  computed : {x : Numbered} → Refuses g x → judge g ≡ Refused (refusal x)
+  computed : {x : Numbered} → Refuses g x → judge g ≡ Err (refusal x)
   unfolding judge
   computed (shape s) = rw (false_says (shape? g) s)
   computed (node s l f) =
@@ -149,7 +149,7 @@ module _ (g : Graph) where
       let e = a.entered in
       let l = lt-ltb _ _ (first_found (first? (no_entry g) (entry? g) g.size.n) e.1 (λ f. f e.2)) in
       sym (rw (true_says (shape? g) a.shape, all_nodes a.nodes, all_edges a.edges, l))
-  judges_judge (refused {r} f) = sym (computed f ∙ ap Refused (refusal_numbered r))
+  judges_judge (refused {r} f) = sym (computed f ∙ ap Err (refusal_numbered r))
 
 -- one answer for a graph
 pub judges_one : (g : Graph) {r s : Judged} → Judges g r → Judges g s → r ≡ s
@@ -157,10 +157,10 @@ judges_one g a b = judges_judge g a ∙ sym (judges_judge g b)
 
 -- ---- what an answer tells
 
-pub accepted_is : {g : Graph} → Judges g Accepted → Acceptable g
+pub accepted_is : {g : Graph} → Judges g (Ok tt) → Acceptable g
 accepted_is (accepted a) = a
 
-pub refused_is : {g : Graph} {r : Refusal} → Judges g (Refused r) → Refuses g (numbered r)
+pub refused_is : {g : Graph} {r : Refusal} → Judges g (Err r) → Refuses g (numbered r)
 refused_is (refused f) = f
 
 -- one refusal for a graph, and none for one that is accepted
@@ -173,12 +173,12 @@ module _ (g : Graph) where
 
   pub refuses_one : {x z : Numbered} → Refuses g x → Refuses g z → x ≡ z
   refuses_one {x} {z} a b =
-      let p : Refused (refusal x) ≡ Refused (refusal z) = sym (computed g a) ∙ computed g b in
+      let p : Err (refusal x) ≡ Err (refusal z) = sym (computed g a) ∙ computed g b in
       let q : refusal x ≡ refusal z = cc in
       sym (numbers a) ∙ ap numbered q ∙ numbers b
 
   pub refuses_not : {x : Numbered} → Refuses g x → Acceptable g → ⊥
   refuses_not {x} a b =
-      let p : Accepted ≡ Refused (refusal x) = judges_judge g (accepted b) ∙ computed g a in
+      let p : (Ok tt) ≡ Err (refusal x) = judges_judge g (accepted b) ∙ computed g a in
       let z : ◌≡◌ {A = ℕ} 0 1 = cc in
       omega arith

@@ -13,8 +13,8 @@ use Rattle.graph.specs.Judge.Laws.{each_node?, each_edge?, accepted_is, judges_o
 use Rattle.graph.specs.declared.Size.{Size}
 use Rattle.graph.specs.declared.Refusal.{Refusal}
 use Rattle.graph.specs.declared.Refusal.TheVariants as why
-use Rattle.graph.specs.declared.Judged.{Judged}
-use Rattle.graph.specs.declared.Judged.TheVariants.{Accepted, Refused}
+use Rattle.graph.specs.Refusals.{Judged}
+use Rattle.std.specs.Prelude.{Ok, Err}
 use Rattle.handover.specs.Handover.{Lent, Room, roomy, held_graph, NodesWritten, EdgesWritten, Copied, HeldJudged, bare, judged, HandsOver, cramped, refused, accepted}
 
 -- the first places of each slice, as the check is lent them
@@ -35,12 +35,12 @@ pub record Fine (c : Size) (held : Lent) : Type 0 where
   pub room : Room held
   pub ranges : Ranges c
 
-pub held_fine : {c : Size} {held : Lent} {i : Judged} → i ≡ Accepted → HeldJudged c held i → Fine c held
+pub held_fine : {c : Size} {held : Lent} {i : Judged} → i ≡ (Ok tt) → HeldJudged c held i → Fine c held
 held_fine e (bare d) = let z : ◌≡◌ {A = ℕ} 0 1 = cc in absurd (omega arith)
 held_fine {c} {held} e (judged r j) = record { room = r; ranges = (accepted_is (subst (Judges (held_graph c held)) e j)).shape.ranges }
 
 -- counts out of range are refused as the graph's own check refuses them
-pub range_refuses : (c : Size) (x : Lent) → (Ranges c → ⊥) → Judges (held_graph c x) (Refused why.Shape)
+pub range_refuses : (c : Size) (x : Lent) → (Ranges c → ⊥) → Judges (held_graph c x) (Err why.Shape)
 range_refuses c x d = Judges.refused (Refuses.shape (λ s. d s.ranges))
 
 pub room? : (x : Lent) → Says (Room x) (roomy x)
@@ -89,7 +89,7 @@ held_one (bare d) (judged r j) = absurd (d r)
 held_one (judged r j) (bare d) = absurd (d r)
 held_one {c} {held} (judged r j) (judged s i) = judges_one (held_graph c held) j i
 
-never_both : {r : Refusal} → Refused r ≡ Accepted → ⊥
+never_both : {r : Refusal} → Err r ≡ (Ok tt) → ⊥
 never_both e = let z : ◌≡◌ {A = ℕ} 0 1 = cc in omega arith
 
 pub hands_over_one : {c : Size} {held before x y : Lent} {a b : Judged} → HandsOver c held before a x → HandsOver c held before b y → (a ≡ b) × (x ≡ y)

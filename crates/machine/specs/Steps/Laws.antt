@@ -4,8 +4,8 @@ use Rattle.std.proofs.Common.{ap, arith}
 use Rattle.graph.specs.Graph.{Graph, PerEdge}
 use Rattle.graph.specs.Refusals.{Numbered}
 use Rattle.graph.specs.Refusals.Laws.{numbered_one}
-use Rattle.machine.specs.declared.Stepped.{Stepped}
-use Rattle.machine.specs.declared.Stepped.TheVariants as answer
+use Rattle.machine.specs.Steps.{Stepped}
+use Rattle.std.specs.Prelude.{Ok, Err}
 use Rattle.machine.specs.Inspect.{Asks}
 use Rattle.machine.specs.Inspect.Laws.{refusal_one, refusal_not}
 use Rattle.machine.specs.Steps.{Rule, RuleOf, DeniedOf, StepRefuses, asks, no_rule, check_denied, no_room, Steps}
@@ -54,9 +54,9 @@ module _ (g : Graph) {st : List ℕ} {height next : ℕ} where
   step_refusal_not (no_room _ v _ m) k u d l = m (rw (rule_one v u) l)
 
   pub step_one : {r s : Stepped} {a b : List ℕ} → Steps g st height next r a → Steps g st height next s b → (r ≡ s) × (a ≡ b)
-  step_one (Steps.refused {r = x} f) (Steps.refused {r = z} k) = (ap answer.Refused (numbered_one x z (step_refusal_one f k)), refl)
+  step_one (Steps.refused {r = x} f) (Steps.refused {r = z} k) = (ap Err (numbered_one x z (step_refusal_one f k)), refl)
   step_one (Steps.refused f) (Steps.moved k u d l) = absurd (step_refusal_not f k u d l)
   step_one (Steps.moved k u d l) (Steps.refused f) = absurd (step_refusal_not f k u d l)
   step_one (Steps.moved {place = p} k u d l) (Steps.moved {place = q} _ v _ _) =
       let e = rule_one u v in
-      (ap (λ i. answer.Moved (i + 1)) e, ap (λ i. set st i next) e)
+      (ap (λ i. Ok (i + 1)) e, ap (λ i. set st i next) e)

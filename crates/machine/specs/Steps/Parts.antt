@@ -10,8 +10,8 @@ use Rattle.machine.specs.declared.Inspection.{Inspection}
 use Rattle.machine.specs.declared.Inspection.TheVariants as inspection
 use Rattle.machine.specs.declared.Place.{Place}
 use Rattle.machine.specs.declared.Place.TheVariants.{At, Nowhere}
-use Rattle.machine.specs.declared.Stepped.{Stepped}
-use Rattle.machine.specs.declared.Stepped.TheVariants as answer
+use Rattle.machine.specs.Steps.{Stepped}
+use Rattle.std.specs.Prelude.{Ok, Err}
 use Rattle.machine.specs.Inspect.{SaysSo, passes, fails, Asks}
 use Rattle.machine.specs.Steps.{top, lower, Rule, DeniedOf, StepRefuses, Steps}
 
@@ -47,9 +47,9 @@ module _ {kinds entries : List ℕ} {m : ℕ} {x : PerEdge (List ℕ)} {stack : 
 -- ---- what is left of a step once its place is known, where D says that the check on top is denied
 
 pub data Takes (D : Type 0) (stack : List ℕ) (next place : ℕ) : Stepped → List ℕ → Type 0 where
-  denies : D → Takes D stack next place (answer.Refused refusal.Denied) stack
-  lacks_room : (D → ⊥) → (place < length stack → ⊥) → Takes D stack next place (answer.Refused refusal.NoRoom) stack
-  moves : (D → ⊥) → place < length stack → Takes D stack next place (answer.Moved (place + 1)) (set stack place next)
+  denies : D → Takes D stack next place (Err refusal.Denied) stack
+  lacks_room : (D → ⊥) → (place < length stack → ⊥) → Takes D stack next place (Err refusal.NoRoom) stack
+  moves : (D → ⊥) → place < length stack → Takes D stack next place (Ok (place + 1)) (set stack place next)
 
 module _ (g : Graph) {stack : List ℕ} {height next : ℕ} (a : Asks g (next < g.size.n) stack height) where
   pub nowhere_refuses : Placed g.nodes.kinds g.nodes.entries g.size.m g.edges stack height next Nowhere → StepRefuses g stack height next (8 at 0)

@@ -7,7 +7,7 @@ use Rattle.graph.specs.Graph.{Graph, Acceptable, Leads}
 use Rattle.stacks.specs.Machine.{stack_of, Step, Reachable}
 use Rattle.stacks.specs.Machine.Slices.{bare, height_of}
 use Rattle.frames.specs.Frames.{Frame, StackFits}
-use Rattle.machine.specs.declared.Stepped.TheVariants as answer
+use Rattle.std.specs.Prelude.{Ok, Err}
 use Rattle.machine.specs.Steps.{Rule, RuleOf, Steps}
 use Rattle.machine.specs.Steps.Sound.{step_reaches, step_complete, step_takes}
 
@@ -15,7 +15,7 @@ module _ (g : Graph) (slice : List ℕ) where
   -- from the empty stack, call after call
   pub data Runs : (stack : List ℕ) (height : ℕ) → Type 0 where
     begin : Runs slice 0
-    then : {stack after : List ℕ} {height new next : ℕ} → Runs stack height → Steps g stack height next (answer.Moved new) after → Runs after new
+    then : {stack after : List ℕ} {height new next : ℕ} → Runs stack height → Steps g stack height next (Ok new) after → Runs after new
 
   pub runs_reach : {stack : List ℕ} {height : ℕ} → Runs stack height → Reachable g (stack_of stack height)
   runs_reach begin = rw (bare slice) Reachable.empty

@@ -3,7 +3,7 @@ use Rattle.std.specs.Prelude.{ℕ, ◌<◌, ◌+◌, ◌-◌, ◌≡◌, refl, L
 use Rattle.std.proofs.Common.{sym, ◌∙◌, ap, arith, eqb-true, eq-eqb}
 use Rattle.truth.specs.Truth.Bools.{by_split, clash}
 use Rattle.graph.specs.Graph.{Graph, kind, check}
-use Rattle.machine.specs.declared.Stepped.TheVariants as answer
+use Rattle.std.specs.Prelude.{Ok, Err}
 use Rattle.stacks.specs.Machine.{rights_of, stack_of, full, Step, Reachable}
 use Rattle.stacks.specs.Machine.Slices.{bare, written, topped, topped_twice, height_of, has_top, its_top, its_rest}
 use Rattle.machine.specs.Inspect.{Asks}
@@ -23,11 +23,11 @@ module _ (g : Graph) (st : List ℕ) (height next : ℕ) where
   taken n (Rule.back h k j) d l = step_by (topped_twice st height h) (written st next (height - 2) l) (Step.back k j)
 
   -- what the call returned and stored is a step
-  pub step_sound : {h : ℕ} {after : List ℕ} → Steps g st height next (answer.Moved h) after → Step g (stack_of st height) (stack_of after h)
+  pub step_sound : {h : ℕ} {after : List ℕ} → Steps g st height next (Ok h) after → Step g (stack_of st height) (stack_of after h)
   step_sound (Steps.moved k u d l) = taken k.below u d l
 
   -- so what the call makes of a reachable stack is reachable
-  pub step_reaches : {h : ℕ} {after : List ℕ} → Reachable g (stack_of st height) → Steps g st height next (answer.Moved h) after → Reachable g (stack_of after h)
+  pub step_reaches : {h : ℕ} {after : List ℕ} → Reachable g (stack_of st height) → Steps g st height next (Ok h) after → Reachable g (stack_of after h)
   step_reaches r s = Reachable.then r (step_sound s)
 
 -- ---- every step of the rules is one that the call takes, where the slice has the place
@@ -80,7 +80,7 @@ module _ (g : Graph) (st : List ℕ) (height : ℕ) where
   step_complete s = can s refl
 
   pub step_takes : {t : List ℕ} (s : Step g (stack_of st height) t) → Asks g ((step_complete s).next < g.size.n) st height → (step_complete s).place < length st
-      → Steps g st height (step_complete s).next (answer.Moved ((step_complete s).place + 1)) (set st (step_complete s).place (step_complete s).next)
+      → Steps g st height (step_complete s).next (Ok ((step_complete s).place + 1)) (set st (step_complete s).place (step_complete s).next)
       × (stack_of (set st (step_complete s).place (step_complete s).next) ((step_complete s).place + 1) ≡ t)
   step_takes s a l =
       let c = step_complete s in

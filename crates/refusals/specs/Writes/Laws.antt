@@ -8,20 +8,20 @@ use Rattle.graph.specs.declared.Refusal.TheVariants as why
 use Rattle.writer.specs.Writer.{last_place, Puts}
 use Rattle.writer.specs.Writer.Places.{puts_count}
 use Rattle.writer.specs.Writer.Numbers.{decimal_short}
-use Rattle.refusals.specs.declared.Written.{Written}
-use Rattle.refusals.specs.declared.Written.TheVariants.{Bytes, Refused}
+use Rattle.graph.specs.Refusals.{Written}
+use Rattle.std.specs.Prelude.{Ok, Err}
 use Rattle.refusals.specs.Writes.{refusal_row, refusal_bytes, Writes, written, too_short}
 
 module _ {bytes before : List ℕ} {count : ℕ} (e : count ≡ length bytes) where
-  pub writes_none : length before < count → Writes bytes before (Refused why.NoRoom) before
+  pub writes_none : length before < count → Writes bytes before (Err why.NoRoom) before
   writes_none h = too_short (λ l. omega (arith, e, h, l))
 
-  pub writes_all : {r : ℕ} {after : List ℕ} → count ≤ length before → Puts bytes before 0 r after → Writes bytes before (Bytes count) after
+  pub writes_all : {r : ℕ} {after : List ℕ} → count ≤ length before → Puts bytes before 0 r after → Writes bytes before (Ok count) after
   writes_all {r} {after} h p =
-      subst (λ (l : List ℕ). Writes bytes before (Bytes count) l) (sym p.content) (subst (λ (n : ℕ). Writes bytes before (Bytes n) (sets before 0 bytes)) (sym e) (written (omega (arith, e, h))))
+      subst (λ (l : List ℕ). Writes bytes before (Ok count) l) (sym p.content) (subst (λ (n : ℕ). Writes bytes before (Ok n) (sets before 0 bytes)) (sym e) (written (omega (arith, e, h))))
 
 -- bytes that were written to a buffer with room for more
-pub writes_close : {bytes before after : List ℕ} {r most : ℕ} → Puts bytes before 0 r after → most ≤ length before → length bytes ≤ most → most ≤ last_place → Writes bytes before (Bytes r) after
+pub writes_close : {bytes before after : List ℕ} {r most : ℕ} → Puts bytes before 0 r after → most ≤ length before → length bytes ≤ most → most ≤ last_place → Writes bytes before (Ok r) after
 writes_close p h k l = let e = puts_count p (omega (arith, k, l)) in writes_all e (omega (arith, e, h, k)) p
 
 pub refusal_is : {number place : ℕ} (r : Refusal) → number ≡ (numbered r).number → place ≡ (numbered r).place → refusal_row number place ≡ refusal_bytes r

@@ -8,19 +8,18 @@ use Rattle.graph.specs.Judge.Laws.{refuses_not, judges_one}
 use Rattle.graph.specs.Refusals.{Numbered}
 use Rattle.graph.specs.declared.Refusal.{Refusal}
 use Rattle.graph.specs.declared.Refusal.TheVariants as why
-use Rattle.graph.specs.declared.Judged.{Judged}
-use Rattle.graph.specs.declared.Judged.TheVariants as judged
+use Rattle.graph.specs.Refusals.{Judged}
+use Rattle.std.specs.Prelude.{Ok, Err}
 use Rattle.solver.specs.Solve.{Solves, solved}
 use Rattle.solver.specs.Solve as solve
-use Rattle.refusals.specs.declared.Written.{Written}
-use Rattle.refusals.specs.declared.Written.TheVariants as written
+use Rattle.graph.specs.Refusals.{Written}
 use Rattle.refusals.specs.Writes.{Writes}
 use Rattle.rows.specs.Result.{Long, WritesResult, shape, result}
 use Rattle.refusals.specs.Writes.Laws.{writes_one}
 use Rattle.report.specs.Report.{rows_of, WritesGraph, rows, no_graph}
 use Rattle.report.specs.Report.Parts.{WritesJudged, when_accepted, when_refused}
 
-same_refusal : {r q : Refusal} → judged.Refused r ≡ judged.Refused q → r ≡ q
+same_refusal : {r q : Refusal} → Err r ≡ Err q → r ≡ q
 same_refusal e = cc
 
 module _ (g : Graph) where
@@ -50,11 +49,11 @@ module _ (g : Graph) where
   graph_written l (solve.refused f) when_refused = no_graph (Judges.refused (graph_refused l f))
 
   -- more nodes or edges than a graph may have
-  pub too_large : {before : List ℕ} → (Ranges g.size → ⊥) → WritesGraph g before (written.Refused why.Shape) before
+  pub too_large : {before : List ℕ} → (Ranges g.size → ⊥) → WritesGraph g before (Err why.Shape) before
   too_large d = no_graph (Judges.refused (Refuses.shape (λ s. d s.ranges)))
 
   -- a graph that is accepted is not refused
-  accepted_only : {r : Refusal} → Judges g (judged.Refused r) → Acceptable g → ⊥
+  accepted_only : {r : Refusal} → Judges g (Err r) → Acceptable g → ⊥
   accepted_only (Judges.refused f) acc = refuses_not g f acc
 
   pub rows_only : {r : Written} {before after : List ℕ} → Acceptable g → WritesGraph g before r after → (t : Slices) × Content g t × Writes (rows_of g t) before r after
@@ -66,4 +65,4 @@ module _ (g : Graph) where
   graph_one {before} (rows _ c w) (rows {r = q} {after = b} _ d v) = writes_one w (subst (λ t. Writes (rows_of g t) before q b) (content_one g d c) v)
   graph_one (rows acc c w) (no_graph j) = absurd (accepted_only j acc)
   graph_one (no_graph j) (rows acc c w) = absurd (accepted_only j acc)
-  graph_one (no_graph {r = r} j) (no_graph {r = q} k) = (ap written.Refused (same_refusal (judges_one g j k)), refl)
+  graph_one (no_graph {r = r} j) (no_graph {r = q} k) = (ap Err (same_refusal (judges_one g j k)), refl)

@@ -1,6 +1,6 @@
 -- The call leaves one answer and one content.
 use Rattle.std.specs.Prelude.{ℕ, ◌≡◌, refl, List}
-use Rattle.refusals.specs.declared.Written.{Written}
+use Rattle.graph.specs.Refusals.{Written}
 use Rattle.refusals.specs.Writes.Laws.{writes_one}
 use Rattle.rows.specs.Result.{WritesResult, shape, result}
 

@@ -6,8 +6,8 @@ use Rattle.graph.proofs.Graph.Results.{content_one}
 use Rattle.graph.specs.Refusals.{Numbered}
 use Rattle.graph.specs.Refusals.Laws.{numbered_one}
 use Rattle.graph.specs.Judge.Laws.{refuses_one, refuses_not}
-use Rattle.graph.specs.declared.Judged.{Judged}
-use Rattle.graph.specs.declared.Judged.TheVariants.{Refused}
+use Rattle.graph.specs.Refusals.{Judged}
+use Rattle.std.specs.Prelude.{Ok, Err}
 use Rattle.solver.specs.Solve.{Long, SolveRefuses, results, graph, Solves, refused, solved}
 
 module _ (g : Graph) (s : Slices) where
@@ -23,7 +23,7 @@ module _ (g : Graph) (s : Slices) where
 
   -- the answer and the content together
   pub solves_one : {r q : Judged} {t u : Slices} → Solves g s r t → Solves g s q u → (r ≡ q) × (t ≡ u)
-  solves_one (refused {r = a} f) (refused {r = b} h) = (ap Refused (numbered_one a b (refusal_one f h)), refl)
+  solves_one (refused {r = a} f) (refused {r = b} h) = (ap Err (numbered_one a b (refusal_one f h)), refl)
   solves_one (refused f) (solved l a c) = absurd (refusal_not f l a)
   solves_one (solved l a c) (refused f) = absurd (refusal_not f l a)
   solves_one (solved l a c) (solved m b d) = (refl, content_one g c d)

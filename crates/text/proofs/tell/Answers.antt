@@ -1,5 +1,5 @@
 use mathlib.Core.Path.{sym, ap}
-use Rattle.graph.specs.declared.Judged.{Judged}
+use Rattle.graph.specs.Refusals.{Judged}
 use Rattle.text.specs.Text.Parts.{told}
 use Rattle.text.proofs.tell.Goals as goal
 

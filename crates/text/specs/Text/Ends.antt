@@ -4,8 +4,8 @@ use Rattle.std.specs.Prelude.{◌≡◌, true, false, List, ◌∷◌, length, l
 use Rattle.std.proofs.Math.Path.{refl, sym, ap, subst}
 use Rattle.std.proofs.Common.{◌∙◌, arith, ltb-true, ltb-false}
 use Rattle.truth.specs.Truth.Bools.{by_split}
-use Rattle.records.specs.declared.Node.{Node}
-use Rattle.records.specs.declared.Edge.{Edge}
+use Rattle.graph.specs.declared.Node.{Node}
+use Rattle.graph.specs.declared.Edge.{Edge}
 use Rattle.graph.specs.declared.Size.{Size}
 use Rattle.records.specs.Records.{Got, got, no, header_at, node_at, kept}
 use Rattle.records.specs.Records.Rows.{header_ranges}

@@ -3,8 +3,8 @@ use Rattle.std.specs.Prelude.{ℕ, ◌≡◌, refl, List, [], ◌∷◌}
 use Rattle.graph.specs.Graph.Gateway.{gateway}
 use Rattle.scan.specs.Scan.{run, digits_from, number_of, words, ascending, members_of}
 use Rattle.lex.specs.Lex.{followed, quoted_at, plain_at, field_at, comma_at, last_at}
-use Rattle.records.specs.declared.Node.{Node}
-use Rattle.records.specs.declared.Edge.{Edge}
+use Rattle.graph.specs.declared.Node.{Node}
+use Rattle.graph.specs.declared.Edge.{Edge}
 use Rattle.fields.specs.Fields.{says, form_at, end_at}
 use Rattle.records.specs.Records.{grants_at, three_at, header_at, lead_at, node_at, edge_at}
 use Rattle.text.specs.Text.{rows_at, text_at, graph_from}

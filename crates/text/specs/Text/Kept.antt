@@ -9,9 +9,9 @@ use Rattle.sets.specs.Sets.Members.{below_members}
 use Rattle.graph.specs.Graph.{size_of, nodes_of, map_node, map_edge, NodesLong, EdgesLong, Graph, NodeRule, NodeObeys, Ranges, Shape, Acceptable}
 use Rattle.graph.specs.Refusals.{Numbered}
 use Rattle.graph.specs.Judge.{Refuses, Judges}
-use Rattle.graph.specs.declared.Judged.{Judged}
-use Rattle.records.specs.declared.Node.{Node}
-use Rattle.records.specs.declared.Edge.{Edge}
+use Rattle.graph.specs.Refusals.{Judged}
+use Rattle.graph.specs.declared.Node.{Node}
+use Rattle.graph.specs.declared.Edge.{Edge}
 use Rattle.records.specs.Records.{kept}
 use Rattle.text.specs.Text.{graph_from, node_columns, edge_columns}
 

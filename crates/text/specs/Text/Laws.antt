@@ -14,19 +14,18 @@ use Rattle.graph.specs.Judge.Laws.{judge_judges, judges_judge, accepted_is}
 use Rattle.graph.specs.declared.Size.{Size}
 use Rattle.graph.specs.declared.Refusal.{Refusal}
 use Rattle.graph.specs.declared.Refusal.TheVariants as why
-use Rattle.graph.specs.declared.Judged.{Judged}
-use Rattle.graph.specs.declared.Judged.TheVariants as judged
+use Rattle.graph.specs.Refusals.{Judged}
+use Rattle.std.specs.Prelude.{Ok, Err}
 use Rattle.handover.specs.Handover.{Lent, Room, held_graph, NodesWritten, EdgesWritten, Copied, HandsOver, cramped, refused, accepted}
 use Rattle.handover.specs.Handover.Laws.{room?, held_judges, wrote, nodes_back, edges_back, written_one, edges_written_one}
-use Rattle.records.specs.declared.Node.{Node}
-use Rattle.records.specs.declared.Edge.{Edge}
+use Rattle.graph.specs.declared.Node.{Node}
+use Rattle.graph.specs.declared.Edge.{Edge}
 use Rattle.records.specs.Records.{kept}
 use Rattle.extent.specs.Extent.{SizesSo}
 use Rattle.extent.specs.Extent as extent
 use Rattle.extent.specs.declared.Parsed.{Parsed}
 use Rattle.extent.specs.declared.Parsed.TheVariants.{Counted, Wrong}
-use Rattle.text.specs.declared.Reading.{Reading}
-use Rattle.text.specs.declared.Reading.TheVariants as answer
+use Rattle.text.specs.Text.{Reading}
 use Rattle.text.specs.Text.{Meaning, says, wrong, text_at, node_columns, edge_columns, graph_from, Outcome, read, on_judged, on_meaning, outcome_from, reading_from, Stores, Tells, stored, refuses}
 use Rattle.text.specs.Text as text
 use Rattle.text.specs.Text.Kept.{columns_long, edge_columns_long, kept_all, kept_judges, kept_same}
@@ -81,9 +80,9 @@ module _ {c : Size} {zeros held : Lent} {s : List ℕ} {from row : ℕ} (d : Sai
   means_so : {j : Judged} → Judges (held_graph c held) j → on_meaning (text_at s from row) ≡ on_judged j c.k d.ns d.es
   means_so {j} h = ap on_meaning d.means ∙ ap (λ (i : Judged). on_judged i c.k d.ns d.es) (judged_text h)
 
-  module _ {before after : Lent} (h : Judges (held_graph c held) judged.Accepted) (p : Copied c held before after) where
+  module _ {before after : Lent} (h : Judges (held_graph c held) (Ok tt)) (p : Copied c held before after) where
     same : kept_all d.ns ≡ d.ns
-    same = kept_same c.k d.ns d.es (accepted_is (subst (λ (g : Graph). Judges g judged.Accepted) held_is h))
+    same = kept_same c.k d.ns d.es (accepted_is (subst (λ (g : Graph). Judges g (Ok tt)) held_is h))
 
     copied_so : Stores before d.ns d.es after
     copied_so =
@@ -94,7 +93,7 @@ module _ {c : Size} {zeros held : Lent} {s : List ℕ} {from row : ℕ} (d : Sai
   pub handed_tells : {before after : Lent} {j : Judged} → Room held → Room before → HandsOver c held before j after → Tells (on_meaning (text_at s from row)) before (told j c) after
   handed_tells p q (cramped e) = absurd (e q)
   handed_tells {before} {after} p q (accepted _ h w) =
-      subst (λ (x : Size). Tells (on_meaning (text_at s from row)) before (answer.Graph x) after) (λ i. size_of c.k (sym d.n_is i) (sym d.m_is i))
+      subst (λ (x : Size). Tells (on_meaning (text_at s from row)) before (Ok x) after) (λ i. size_of c.k (sym d.n_is i) (sym d.m_is i))
       (stored (means_so (held_judges p h)) (copied_so (held_judges p h) w))
   handed_tells p q (refused _ h) = refuses (means_so (held_judges p h))
 
@@ -104,7 +103,7 @@ counted_room {zeros} s from row {held = held} h e z = stores_room (counted_is (s
 
 -- the answer, by what was parsed
 module _ {before zeros : Lent} (s : List ℕ) (from row : ℕ) {p : Parsed} {held : Lent} (h : Parses zeros s from row p held) where
-  pub wrong_tells : {x : ℕ} → p ≡ Wrong x → Tells (on_meaning (text_at s from row)) before (answer.Refused (why.Row x)) before
+  pub wrong_tells : {x : ℕ} → p ≡ Wrong x → Tells (on_meaning (text_at s from row)) before (Err (why.Row x)) before
   wrong_tells e = refuses (ap on_meaning (faulty_is (subst (λ (q : Parsed). Parses zeros s from row q held) e h)))
 
   pub counted_tells : {c : Size} {after : Lent} {j : Judged} {r : Reading} → p ≡ Counted c → Room zeros → Room before → HandsOver c held before j after → r ≡ told j c → Tells (on_meaning (text_at s from row)) before r after
@@ -134,17 +133,17 @@ module _ (x : Lent) (s : List ℕ) (from row : ℕ) where
 
   -- refused for the lengths, or read
   module _ {z : Judged} (h : SizesSo (map_node length x.nodes) (map_edge length x.edges) (length s) z) where
-    pub sizes_refused : {r : Refusal} → z ≡ judged.Refused r → reading_from x s from row ≡ text.refused (numbered r)
+    pub sizes_refused : {r : Refusal} → z ≡ Err r → reading_from x s from row ≡ text.refused (numbered r)
     sizes_refused e = by_sizes (subst (SizesSo _ _ _) e h)
       where
-        by_sizes : {r : Refusal} → SizesSo (map_node length x.nodes) (map_edge length x.edges) (length s) (judged.Refused r) → reading_from x s from row ≡ text.refused (numbered r)
+        by_sizes : {r : Refusal} → SizesSo (map_node length x.nodes) (map_edge length x.edges) (length s) (Err r) → reading_from x s from row ≡ text.refused (numbered r)
         by_sizes (extent.cramped d) = reading_short (λ r. d (r.nodes, r.edges))
         by_sizes (extent.long l k) = reading_long (record { nodes = l.0; edges = l.1 }) k
 
-    pub sizes_fit : z ≡ judged.Accepted → Room x × (reading_from x s from row ≡ on_meaning (text_at s from row))
+    pub sizes_fit : z ≡ (Ok tt) → Room x × (reading_from x s from row ≡ on_meaning (text_at s from row))
     sizes_fit e = by_sizes (subst (SizesSo _ _ _) e h)
       where
-        by_sizes : SizesSo (map_node length x.nodes) (map_edge length x.edges) (length s) judged.Accepted → Room x × (reading_from x s from row ≡ on_meaning (text_at s from row))
+        by_sizes : SizesSo (map_node length x.nodes) (map_edge length x.edges) (length s) (Ok tt) → Room x × (reading_from x s from row ≡ on_meaning (text_at s from row))
         by_sizes (extent.fit l k) = let r : Room x = record { nodes = l.0; edges = l.1 } in (r, reading_sized r k)
 
 pub tells_by : {o p : Outcome} {before after : Lent} {r : Reading} → o ≡ p → Tells p before r after → Tells o before r after
@@ -153,12 +152,12 @@ tells_by {before = before} {after = after} {r = r} e t = subst (λ (q : Outcome)
 -- ---- what the caller of the reader knows of a graph that was read
 
 judged_read : (j : Judged) (k l : ℕ) (ns ms : List Node) (es fs : List Edge) → Judges (graph_from k ns es) j → on_judged j k ns es ≡ read l ms fs → Acceptable (graph_from l ms fs)
-judged_read judged.Accepted k l ns ms es fs h e =
+judged_read (Ok tt) k l ns ms es fs h e =
     let u : k ≡ l = cc in
     let v : ns ≡ ms = cc in
     let w : es ≡ fs = cc in
     subst (λ i. Acceptable (graph_from i ms fs)) u (subst (λ x. Acceptable (graph_from k x fs)) v (subst (λ x. Acceptable (graph_from k ns x)) w (accepted_is h)))
-judged_read (judged.Refused r) k l ns ms es fs h e = let z : ◌≡◌ {A = ℕ} 0 1 = cc in absurd (omega arith)
+judged_read (Err r) k l ns ms es fs h e = let z : ◌≡◌ {A = ℕ} 0 1 = cc in absurd (omega arith)
 
 meaning_read : (t : Meaning) (l : ℕ) (ms : List Node) (fs : List Edge) → on_meaning t ≡ read l ms fs → Acceptable (graph_from l ms fs)
 meaning_read (wrong row) l ms fs e = let z : ◌≡◌ {A = ℕ} 0 1 = cc in absurd (omega arith)
@@ -187,7 +186,7 @@ stores_one a b = λ i. record { nodes = written_one a.nodes b.nodes i; edges = e
 pub reads_one : {o : Outcome} {before x y : Lent} {a b : Reading} → Tells o before a x → Tells o before b y → (a ≡ b) × (x ≡ y)
 reads_one {before = before} {x = x} {y = y} (stored {k = k} {ns = ns} {es = es} e h) (stored {k = l} {ns = ms} {es = fs} f i) = go (sym e ∙ f)
   where
-    go : read k ns es ≡ read l ms fs → (answer.Graph (size_of k (length ns) (length es)) ≡ answer.Graph (size_of l (length ms) (length fs))) × (x ≡ y)
+    go : read k ns es ≡ read l ms fs → (Ok (size_of k (length ns) (length es)) ≡ Ok (size_of l (length ms) (length fs))) × (x ≡ y)
     go q =
         let u : k ≡ l = cc in
         let v : ns ≡ ms = cc in
@@ -195,7 +194,7 @@ reads_one {before = before} {x = x} {y = y} (stored {k = k} {ns = ns} {es = es} 
         (rw (u, v, w) refl, stores_one (subst (λ l. Stores before l fs x) v (subst (λ l. Stores before ns l x) w h)) i)
 reads_one (stored e h) (refuses f) = let q = sym e ∙ f in let z : ◌≡◌ {A = ℕ} 0 1 = cc in absurd (omega arith)
 reads_one (refuses e) (stored f h) = let q = sym e ∙ f in let z : ◌≡◌ {A = ℕ} 0 1 = cc in absurd (omega arith)
-reads_one (refuses {r = r} e) (refuses {r = t} f) = (ap answer.Refused (numbered_one r t (same_refused (sym e ∙ f))), refl)
+reads_one (refuses {r = r} e) (refuses {r = t} f) = (ap Err (numbered_one r t (same_refused (sym e ∙ f))), refl)
   where
     same_refused : text.refused (numbered r) ≡ text.refused (numbered t) → numbered r ≡ numbered t
     same_refused q = cc

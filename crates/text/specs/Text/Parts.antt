@@ -1,17 +1,16 @@
 -- What the parts of the reader say.
 use Rattle.std.specs.Prelude.{ℕ, zero, suc, ◌+◌, ◌≤◌, ◌≡◌, List, [], ◌∷◌, length}
 use Rattle.graph.specs.Graph.{PerNode, PerEdge, EachNode, EachEdge, Ranges}
-use Rattle.graph.specs.declared.Judged.{Judged}
-use Rattle.graph.specs.declared.Judged.TheVariants as judged
-use Rattle.records.specs.declared.Node.{Node}
-use Rattle.records.specs.declared.Edge.{Edge}
+use Rattle.graph.specs.Refusals.{Judged}
+use Rattle.std.specs.Prelude.{Ok, Err}
+use Rattle.graph.specs.declared.Node.{Node}
+use Rattle.graph.specs.declared.Edge.{Edge}
 use Rattle.graph.specs.declared.Size.{Size}
 use Rattle.records.specs.Records.{Got, got, no, on_got, node_at, kept}
 use Rattle.extent.specs.Extent.{end_of}
 use Rattle.extent.specs.declared.Ran.{Ran}
 use Rattle.extent.specs.declared.Ran.TheVariants.{Past, Stop}
-use Rattle.text.specs.declared.Reading.{Reading}
-use Rattle.text.specs.declared.Reading.TheVariants as answer
+use Rattle.text.specs.Text.{Reading}
 use Rattle.extent.specs.declared.Parsed.{Parsed}
 use Rattle.extent.specs.declared.Parsed.TheVariants.{Counted, Wrong}
 use Rattle.text.specs.Text.Kept.{kept_all}
@@ -69,5 +68,5 @@ pub data Parses (before : Lent) (s : List ℕ) (from row : ℕ) : Parsed → Len
 -- ---- what was parsed, judged and handed over
 
 abbrev pub told : Judged → Size → Reading
-told judged.Accepted c = answer.Graph c
-told (judged.Refused r) c = answer.Refused r
+told (Ok tt) c = Ok c
+told (Err r) c = Err r

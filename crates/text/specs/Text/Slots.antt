@@ -4,10 +4,10 @@ use Rattle.std.proofs.Math.Path.{sym}
 use Rattle.std.proofs.Common.{ap, ◌∙◌, add-one, sub-eq-zero_of_le, arith}
 use Rattle.std.proofs.Math.Nat.{sub-zero}
 use Rattle.std.proofs.Math.Seq.{sets}
-use Rattle.records.specs.declared.Node.{Node}
+use Rattle.graph.specs.declared.Node.{Node}
 use Rattle.records.specs.declared.NodeRow.{NodeRow}
 use Rattle.records.specs.declared.NodeRow.TheVariants as node
-use Rattle.records.specs.declared.Edge.{Edge}
+use Rattle.graph.specs.declared.Edge.{Edge}
 use Rattle.records.specs.declared.EdgeRow.{EdgeRow}
 use Rattle.records.specs.declared.EdgeRow.TheVariants as edge
 use Rattle.records.specs.Records.{Got, got, no, on_got, kept, node_row_of, edge_row_of}

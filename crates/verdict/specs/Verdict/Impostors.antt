@@ -7,11 +7,11 @@ use Rattle.graph.specs.Graph.{verdict_of}
 use Rattle.graph.specs.Graph.Code.{verdict_code}
 use Rattle.graph.specs.Graph.Gateway.{gateway, gateway_slices}
 use Rattle.verdict.specs.declared.Finding.TheVariants.{Needed}
-use Rattle.verdict.specs.declared.Ruling.TheVariants as ruling
+use Rattle.std.specs.Prelude.{Ok, Err}
 use Rattle.verdict.specs.Verdict.{Rules, given}
 
 -- the check at node 5 is not "needed" by the sets that are stored
-pub never_needed : Rules gateway gateway_slices.denied gateway_slices.granted 5 (ruling.Given Needed) → ⊥
+pub never_needed : Rules gateway gateway_slices.denied gateway_slices.granted 5 (Ok Needed) → ⊥
 never_needed (given h) =
     let e : 0 ≡ verdict_of (has 0 0) (has 3 0) = h.number in
     let f : 0 ≡ verdict_of false true = simp has_code at e in

@@ -8,8 +8,8 @@ use Rattle.graph.specs.Refusals.Laws.{numbered_one}
 use Rattle.graph.specs.Judge.Laws.{refuses_one, refuses_not}
 use Rattle.verdict.specs.declared.Finding.{Finding}
 use Rattle.verdict.specs.declared.Finding.TheVariants.{Needed, AlwaysPasses, AlwaysFails, NeverReached}
-use Rattle.verdict.specs.declared.Ruling.{Ruling}
-use Rattle.verdict.specs.declared.Ruling.TheVariants as ruling
+use Rattle.verdict.specs.Verdict.{Ruling}
+use Rattle.std.specs.Prelude.{Ok, Err}
 use Rattle.verdict.specs.Verdict.{verdict_number, VerdictRefuses, sets, graph, asked, no_check, VerdictGiven, Rules, refused, given}
 
 -- what a check's two sets say of it is one finding
@@ -52,7 +52,7 @@ module _ (g : Graph) (d r : List ℕ) (n : ℕ) where
   refusal_not (no_check l a b f) h = clash h.at_check f
 
   pub rules_one : {a b : Ruling} → Rules g d r n a → Rules g d r n b → a ≡ b
-  rules_one (refused {r = a} f) (refused {r = b} h) = ap ruling.Refused (numbered_one a b (refusal_one f h))
+  rules_one (refused {r = a} f) (refused {r = b} h) = ap Err (numbered_one a b (refusal_one f h))
   rules_one (refused f) (given h) = absurd (refusal_not f h)
   rules_one (given h) (refused f) = absurd (refusal_not f h)
-  rules_one (given f) (given h) = ap ruling.Given (finding_one f.number h.number)
+  rules_one (given f) (given h) = ap Ok (finding_one f.number h.number)

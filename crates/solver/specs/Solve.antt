@@ -8,9 +8,14 @@ use Rattle.graph.specs.Judge.{Refuses}
 use Rattle.graph.specs.declared.Refusal.{Refusal}
 use Rattle.graph.specs.Refusals.{Judged}
 use Rattle.std.specs.Prelude.{Ok, Err}
+use Rattle.solver.specs.declared.SetPlaces.{SetPlaces}
 
 abbrev pub slices : (denied granted may_out sure_out : List ℕ) → Slices
 slices denied granted may_out sure_out = record { denied = denied; granted = granted; may_out = may_out; sure_out = sure_out }
+
+-- What the lent slices hold.
+abbrev pub stored : SetPlaces → Slices
+stored x = slices x.denied.now x.granted.now x.may.now x.sure.now
 
 -- The result slices are as long as they have to be.
 abbrev pub Long : Graph → Slices → Type 0

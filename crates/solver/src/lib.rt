@@ -6,10 +6,20 @@ ghost use Rattle.graph.specs.Graph.{graph_of, size_of, Acceptable, Content, Resu
 ghost use Rattle.worklist.specs.Worklist.{Linked};
 ghost use Rattle.flow.specs.Walk.{system_of, counts_num, state, arrive, send_from, Bringable, Brings, Sendable, LeavesAt, NodesStored, Setting, Walking};
 ghost use Rattle.flow.specs.Walk.Settled.{Settled};
-ghost use Rattle.solver.specs.Solve.{slices, Solves};
+ghost use Rattle.graph.specs.Lent.{lent};
+ghost use Rattle.solver.specs.Solve.{stored, Solves};
 
 use flow::Leaving;
-use graph::{Judged, Refusal, Size};
+use graph::{LentGraph, Refusal, Size};
+
+// The slices that a caller lends to be written: a set for each node, denied and granted, and for each edge, what it carries.
+#[derive(Drop)]
+pub struct SetPlaces<'a> {
+    pub denied: &'a mut [u64],
+    pub granted: &'a mut [u64],
+    pub may: &'a mut [u64],
+    pub sure: &'a mut [u64],
+}
 
 // Whether the set v of edge e counts at the node that it arrives at. Most nodes are no checks, and MAY judges a set by itself: there
 // `wide` is not read.
@@ -351,44 +361,20 @@ fn store(
 
 // Solves both systems, and stores the denied and granted sets of every node and the MAY and SURE out sets of every edge. A refusal
 // stores nothing.
-pub fn solve(
-    size: Size,
-    kinds: &[u8],
-    checks: &[u16],
-    privileged: &[u8],
-    entries: &[u8],
-    grants: &[u64],
-    froms: &[u16],
-    tos: &[u16],
-    ways: &[u8],
-    denied: &mut [u64],
-    granted: &mut [u64],
-    may: &mut [u64],
-    sure: &mut [u64],
-) -> Judged
-    ensures { Solves (graph_of size kinds.now checks.now privileged.now entries.now grants.now froms.now tos.now ways.now) (slices denied.old granted.old may.old sure.old) result (slices denied.new granted.new may.new sure.new) }
+pub fn solve(graph: &LentGraph, into: &mut SetPlaces) -> Result<(), Refusal>
+    ensures { Solves (lent graph.now) (stored into.old) result (stored into.new) }
 {
     if !rules::results_long(
-        size.n,
-        size.m,
-        denied.len(),
-        granted.len(),
-        may.len(),
-        sure.len(),
+        graph.size.n,
+        graph.size.m,
+        into.denied.len(),
+        into.granted.len(),
+        into.may.len(),
+        into.sure.len(),
     ) {
-        return Judged::Refused(Refusal::Shape);
+        return Err(Refusal::Shape);
     }
-    let judged = judge::check(
-        size, kinds, checks, privileged, entries, grants, froms, tos, ways,
-    );
-    match judged {
-        Judged::Accepted => {
-            store(
-                denied, granted, may, sure, size, kinds, checks, privileged, entries, grants,
-                froms, tos, ways,
-            );
-            Judged::Accepted
-        }
-        Judged::Refused(why) => Judged::Refused(why),
-    }
+    judge::check(graph)?;
+    store(graph, into);
+    Ok(())
 }

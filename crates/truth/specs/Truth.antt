@@ -3,7 +3,7 @@ pub mod Bools
 pub mod Tests
 pub mod Folds
 pub mod Kit
-use Rattle.std.specs.Prelude.{ℕ, zero, suc, ◌≤◌, ◌<◌, Bool, true, false, cond, ◌&&◌, ◌||◌, ltb}
+use Rattle.std.specs.Prelude.{ℕ, zero, suc, ◌≤◌, ◌<◌, Bool, true, false, cond, ◌&&◌, ◌||◌, ltb, Option, Some, None}
 
 -- b is true where P holds, and false where it does not.
 pub data Says (P : Type 0) : Bool → Type 0 where
@@ -19,6 +19,11 @@ pub record First (P : ℕ → Type 0) (n r : ℕ) : Type 0 where
   pub within : r ≤ n
   pub before : (i : ℕ) → i < r → P i
   pub broken : r < n → P r → ⊥
+
+-- What a search over the numbers below n answers: the first at which P fails, or none where P holds at them all.
+pub data Finds (P : ℕ → Type 0) (n : ℕ) : Option ℕ → Type 0 where
+  nowhere : All P n → Finds P n None
+  found : {r : ℕ} → r < n → First P n r → Finds P n (Some r)
 
 -- The first number below n at which f is false, or n where there is none: First, as a computation.
 unfoldable pub first : (ℕ → Bool) → ℕ → ℕ

@@ -1,10 +1,10 @@
 -- Laws of tests and searches.
-use Rattle.std.specs.Prelude.{ℕ, zero, suc, ◌+◌, ◌≤◌, ◌<◌, Bool, true, false, cond, not, ◌&&◌, ◌||◌, ◌≡◌, refl, ◌⊎◌, leb, ltb, eqb}
-use Rattle.std.proofs.Common.{subst, inl, inr, ⊎_elim, arith, below_more, leb-true, leb-false, ltb-true, ltb-false, eqb-true}
+use Rattle.std.specs.Prelude.{ℕ, zero, suc, ◌+◌, ◌≤◌, ◌<◌, Bool, true, false, cond, not, ◌&&◌, ◌||◌, ◌≡◌, refl, ◌⊎◌, leb, ltb, eqb, Option, Some, None, MatchOption}
+use Rattle.std.proofs.Common.{subst, ap, inl, inr, ⊎_elim, arith, below_more, leb-true, leb-false, ltb-true, ltb-false, eqb-true}
 use Rattle.std.proofs.Math.Logic.{dite}
 use Rattle.std.proofs.Math.Decide.{dec_lt}
 use Rattle.std.proofs.lemmas.Bool.{eqb-false}
-use Rattle.truth.specs.Truth.{Says, holds, fails, All, First, first}
+use Rattle.truth.specs.Truth.{Says, holds, fails, All, First, Finds, nowhere, found, first}
 use Rattle.truth.specs.Truth.Bools.{clash}
 
 -- ---- tests
@@ -123,3 +123,34 @@ passed_stop s d = record { within = s.within; before = s.before; broken = λ _. 
 
 pub passed_end : {P : ℕ → Type 0} {n i : ℕ} → Passed P n i → n ≤ i → First P n i
 passed_end s h = record { within = s.within; before = s.before; broken = λ l. absurd (omega arith) }
+
+-- ---- a search that answers with an Option
+
+pub finds_none : {P : ℕ → Type 0} {n : ℕ} → Finds P n None → All P n
+finds_none (nowhere a) = a
+
+pub finds_low : {P : ℕ → Type 0} {n r : ℕ} → Finds P n (Some r) → r < n
+finds_low (found h f) = h
+
+pub finds_first : {P : ℕ → Type 0} {n r : ℕ} → Finds P n (Some r) → First P n r
+finds_first (found h f) = f
+
+-- P fails at what is found
+pub finds_broken : {P : ℕ → Type 0} {n r : ℕ} → Finds P n (Some r) → P r → ⊥
+finds_broken (found h f) = f.broken h
+
+-- one answer is left
+pub finds_one : {P : ℕ → Type 0} {n : ℕ} {a b : Option ℕ} → Finds P n a → Finds P n b → a ≡ b
+finds_one (nowhere a) (nowhere b) = refl
+finds_one (nowhere a) (found h f) = absurd (first_some f h a)
+finds_one (found h f) (nowhere a) = absurd (first_some f h a)
+finds_one (found h f) (found k g) = ap Some (first_one f g)
+
+-- a search that stops at r, having come there
+pub stops_at : {P : ℕ → Type 0} {n r : ℕ} → All P r → r < n → (P r → ⊥) → Finds P n (Some r)
+stops_at a h d = found h (record { within = omega arith; before = a; broken = λ _. d })
+
+-- what `find` of a range gives
+pub finds_range : {P : ℕ → Type 0} {n : ℕ} {a : Option ℕ} → MatchOption a ((k : ℕ) → 0 ≤ k → k < n → P k) (λ r. (0 ≤ r) × (r < n) × (P r → ⊥) × ((k : ℕ) → 0 ≤ k → k < r → P k)) → Finds P n a
+finds_range {a = None} h = nowhere (λ k l. h k (omega arith) l)
+finds_range {a = Some r} (_, l, d, b) = stops_at (λ k l. b k (omega arith) l) l d

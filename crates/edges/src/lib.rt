@@ -1,53 +1,21 @@
 // Whether an edge of a kind leads from one node to another.
 #![tactic(auto)]
 
-ghost use Rattle.std.specs.Prelude.{◌≡◌, ◌<◌, length};
-ghost use Rattle.truth.specs.Truth.{Says, First};
-ghost use Rattle.graph.specs.Graph.{edges_of, edge_at, EdgesLong};
+ghost use Rattle.std.specs.Prelude.{◌≡◌};
+ghost use Rattle.truth.specs.Truth.{Says};
+ghost use Rattle.graph.specs.Lent.{edges_lent};
 ghost use Rattle.edges.specs.Leading.{Leading};
-ghost use Rattle.edges.specs.Leading.Search.{Joins};
 
-fn joins(from: u16, to: u16, way: u8, kind: u8, a: usize, b: usize) -> bool
-    ensures { Says (Joins (edges_of from to way) kind a b) result }
-{
-    if from as usize != a {
-        return false;
-    }
-    if to as usize != b {
-        return false;
-    }
-    way == kind
-}
-
-// The first edge of a kind that leads from a to b, or m.
-fn first_joining(
-    m: usize,
-    froms: &[u16],
-    tos: &[u16],
-    ways: &[u8],
-    kind: u8,
-    a: usize,
-    b: usize,
-) -> usize
-    requires { EdgesLong m (edges_of (length froms.now) (length tos.now) (length ways.now)) }
-    ensures { First (λ i. Joins (edge_at (edges_of froms.now tos.now ways.now) i) kind a b → ⊥) m result }
-{
-    let mut i = 0;
-    while i < m {
-        if joins(froms[i], tos[i], ways[i], kind, a, b) {
-            return i;
-        }
-        i += 1;
-    }
-    i
-}
+use graph::LentEdges;
 
 // Whether one of m edges, of a kind, leads from a to b. Slices that are not m long hold none.
-pub fn lead(m: usize, froms: &[u16], tos: &[u16], ways: &[u8], kind: u8, a: usize, b: usize) -> bool
-    ensures { Says (Leading m (edges_of froms.now tos.now ways.now) kind a b) result }
+pub fn lead(m: usize, edges: &LentEdges, kind: u8, a: usize, b: usize) -> bool
+    ensures { Says (Leading m (edges_lent edges.now) kind a b) result }
 {
-    if !rules::edges_long(m, froms.len(), tos.len(), ways.len()) {
-        return false;
-    }
-    first_joining(m, froms, tos, ways, kind, a, b) < m
+    rules::edges_long(m, edges.lengths())
+        && (0..m).any(|e| {
+            usize::from(edges.froms[e]) == a
+                && usize::from(edges.tos[e]) == b
+                && edges.ways[e] == kind
+        })
 }

@@ -1,40 +1,17 @@
 // What a stack's slice may be.
 #![tactic(auto)]
 
-ghost use Rattle.std.specs.Prelude.{◌≡◌, ◌≤◌, length};
-ghost use Rattle.truth.specs.Truth.{Says, First};
-ghost use Rattle.frames.specs.Frames.{Frame, StackFits};
+ghost use Rattle.truth.specs.Truth.{Says};
+ghost use Rattle.frames.specs.Frames.{StackFits};
 
 // How many places a stack's slice may have.
 const MOST_FRAMES: usize = 1024;
-
-// The first frame that is no node, or height.
-fn first_bad_frame(n: usize, stack: &[u16], height: usize) -> usize
-    requires { height ≤ length stack.now }
-    ensures { First (Frame n stack.now) height result }
-{
-    let mut i = 0;
-    while i < height {
-        if n <= stack[i] as usize {
-            return i;
-        }
-        i += 1;
-    }
-    i
-}
 
 // Whether a stack may be asked about: no more places than a slice may have, a height within it, and a node at each place below the height.
 pub fn stack_fits(n: usize, stack: &[u16], height: usize) -> bool
     ensures { Says (StackFits n stack.now height) result }
 {
-    if MOST_FRAMES < stack.len() {
-        return false;
-    }
-    if stack.len() < height {
-        return false;
-    }
-    if first_bad_frame(n, stack, height) < height {
-        return false;
-    }
-    true
+    stack.len() <= MOST_FRAMES
+        && height <= stack.len()
+        && stack[..height].iter().all(|frame| usize::from(*frame) < n)
 }

@@ -1,139 +1,74 @@
 // Whether what a caller lends is a graph, or the lowest refusal that applies.
 #![tactic(auto)]
 
-ghost use Rattle.std.specs.Prelude.{◌≡◌, ◌<◌, length};
-ghost use Rattle.truth.specs.Truth.{Says, First};
-ghost use Rattle.graph.specs.Graph.{graph_of, nodes_of, edges_of, NodesAt, EdgeAt, NoEntry, NodesLong, EdgesLong};
+ghost use Rattle.std.specs.Prelude.{◌≡◌, ◌<◌};
+ghost use Rattle.truth.specs.Truth.{Says, Finds};
+ghost use Rattle.graph.specs.Graph.{node_at, Shape, NodeObeys, EdgeObeys};
+ghost use Rattle.graph.specs.Lent.{lent, node_numbers};
 ghost use Rattle.graph.specs.Judge.{Judges};
 
-use graph::{Judged, Refusal, Size};
+use graph::{LentGraph, Node, Refusal};
 
-// The first node that breaks its rule, or n.
-fn first_bad_node(
-    k: usize,
-    n: usize,
-    kinds: &[u8],
-    checks: &[u16],
-    privileged: &[u8],
-    entries: &[u8],
-    grants: &[u64],
-) -> usize
-    requires { NodesLong n (nodes_of (length kinds.now) (length checks.now) (length privileged.now) (length entries.now) (length grants.now)) }
-    ensures { First (NodesAt k (nodes_of kinds.now checks.now privileged.now entries.now grants.now)) n result }
+fn node(graph: &LentGraph, i: usize) -> Node
+    requires shape { Shape (lent graph.now) }
+    requires i_in_bounds { i < graph.now.size.n }
+    ensures { node_numbers result ≡ node_at (lent graph.now).nodes i }
 {
-    let mut i = 0;
-    while i < n {
-        if !rules::node_obeys(k, kinds[i], checks[i], privileged[i], entries[i], grants[i]) {
-            return i;
-        }
-        i += 1;
+    Node {
+        kind: graph.nodes.kinds[i],
+        check: graph.nodes.checks[i],
+        privileged: graph.nodes.privileged[i],
+        entry: graph.nodes.entries[i],
+        grants: graph.nodes.grants[i],
     }
-    i
 }
 
-fn edge_obeys(
-    n: usize,
-    kinds: &[u8],
-    grants: &[u64],
-    froms: &[u16],
-    tos: &[u16],
-    ways: &[u8],
-    e: usize,
-) -> bool
-    requires kinds_len { (length kinds.now ≡ n) × (length grants.now ≡ n) }
-    requires edges_long { EdgesLong (length froms.now) (edges_of (length froms.now) (length tos.now) (length ways.now)) }
-    requires e_in_bounds { e < length froms.now }
-    ensures { Says (EdgeAt n kinds.now grants.now (edges_of froms.now tos.now ways.now) e) result }
+fn first_bad_node(graph: &LentGraph) -> Option<usize>
+    requires { Shape (lent graph.now) }
+    ensures { Finds (NodeObeys (lent graph.now)) graph.now.size.n result }
 {
-    let from = froms[e] as usize;
-    let to = tos[e] as usize;
-    if n <= from {
-        return false;
-    }
-    if n <= to {
-        return false;
-    }
-    rules::ends_obey(ways[e], kinds[from], grants[from], grants[to])
+    (0..graph.size.n).find(|i| !rules::node_obeys(graph.size.k, node(graph, *i)))
 }
 
-// The first edge that breaks its rule, or m.
-fn first_bad_edge(
-    n: usize,
-    m: usize,
-    kinds: &[u8],
-    grants: &[u64],
-    froms: &[u16],
-    tos: &[u16],
-    ways: &[u8],
-) -> usize
-    requires kinds_len { (length kinds.now ≡ n) × (length grants.now ≡ n) }
-    requires edges_long { EdgesLong m (edges_of (length froms.now) (length tos.now) (length ways.now)) }
-    ensures { First (EdgeAt n kinds.now grants.now (edges_of froms.now tos.now ways.now)) m result }
+fn edge_obeys(graph: &LentGraph, e: usize) -> bool
+    requires shape { Shape (lent graph.now) }
+    requires e_in_bounds { e < graph.now.size.m }
+    ensures { Says (EdgeObeys (lent graph.now) e) result }
 {
-    let mut e = 0;
-    while e < m {
-        if !edge_obeys(n, kinds, grants, froms, tos, ways, e) {
-            return e;
-        }
-        e += 1;
-    }
-    e
+    let from = usize::from(graph.edges.froms[e]);
+    let to = usize::from(graph.edges.tos[e]);
+    from < graph.size.n
+        && to < graph.size.n
+        && rules::ends_obey(
+            graph.edges.ways[e],
+            graph.nodes.kinds[from],
+            graph.nodes.grants[from],
+            graph.nodes.grants[to],
+        )
 }
 
-// The first entry node, or n.
-fn first_entry(n: usize, entries: &[u8]) -> usize
-    requires { length entries.now ≡ n }
-    ensures { First (NoEntry entries.now) n result }
+fn first_bad_edge(graph: &LentGraph) -> Option<usize>
+    requires { Shape (lent graph.now) }
+    ensures { Finds (EdgeObeys (lent graph.now)) graph.now.size.m result }
 {
-    let mut i = 0;
-    while i < n {
-        if entries[i] == graph::MARKED {
-            return i;
-        }
-        i += 1;
-    }
-    i
+    (0..graph.size.m).find(|e| !edge_obeys(graph, *e))
 }
 
 // Whether the lent slices are a graph, or the lowest refusal that applies.
-pub fn check(
-    size: Size,
-    kinds: &[u8],
-    checks: &[u16],
-    privileged: &[u8],
-    entries: &[u8],
-    grants: &[u64],
-    froms: &[u16],
-    tos: &[u16],
-    ways: &[u8],
-) -> Judged
-    ensures { Judges (graph_of size kinds.now checks.now privileged.now entries.now grants.now froms.now tos.now ways.now) result }
+pub fn check(graph: &LentGraph) -> Result<(), Refusal>
+    ensures { Judges (lent graph.now) result }
 {
-    let n = size.n;
-    let m = size.m;
-    if !rules::has_shape(
-        size,
-        kinds.len(),
-        checks.len(),
-        privileged.len(),
-        entries.len(),
-        grants.len(),
-        froms.len(),
-        tos.len(),
-        ways.len(),
-    ) {
-        return Judged::Refused(Refusal::Shape);
+    if !rules::has_shape(graph.size, graph.nodes.lengths(), graph.edges.lengths()) {
+        return Err(Refusal::Shape);
     }
-    let i = first_bad_node(size.k, n, kinds, checks, privileged, entries, grants);
-    if i < n {
-        return Judged::Refused(Refusal::Node(i));
+    if let Some(i) = first_bad_node(graph) {
+        return Err(Refusal::Node(i));
     }
-    let e = first_bad_edge(n, m, kinds, grants, froms, tos, ways);
-    if e < m {
-        return Judged::Refused(Refusal::Edge(e));
+    if let Some(e) = first_bad_edge(graph) {
+        return Err(Refusal::Edge(e));
     }
-    if first_entry(n, entries) < n {
-        return Judged::Accepted;
+    if !graph.nodes.entries.contains(&graph::MARKED) {
+        return Err(Refusal::NoEntry);
     }
-    Judged::Refused(Refusal::NoEntry)
+    Ok(())
 }

@@ -4,7 +4,7 @@
 ghost use Rattle.std.specs.Prelude.{◌≡◌};
 ghost use Rattle.sets.specs.Sets.{empty, all, join, common, without, add, within, has, same};
 
-#[derive(Clone, Copy)]
+#[derive(Clone, Copy, PartialEq, Eq)]
 pub struct Set {
     // Permission p is a member where binary digit p is 1.
     pub bits: u64,
@@ -61,13 +61,13 @@ impl Set {
     pub fn same(self, other: Set) -> bool
         ensures { result ≡ same self.bits other.bits }
     {
-        self.bits == other.bits
+        self == other
     }
 
     pub fn is_empty(self) -> bool
         ensures { result ≡ same self.bits empty }
     {
-        self.same(Set::EMPTY)
+        self == Set::EMPTY
     }
 
     pub fn has(self, p: usize) -> bool

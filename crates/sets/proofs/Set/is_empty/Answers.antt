@@ -1,5 +1,0 @@
-use Rattle.sets.specs.Sets.Code.{empty_code}
-use Rattle.sets.proofs.Set.is_empty.Goals as goal
-
-pub returns : goal.returns
-returns c = rw empty_code c.same.ensures

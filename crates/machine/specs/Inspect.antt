@@ -2,9 +2,9 @@
 pub mod Laws
 pub mod Looking
 pub mod Impostors
-use Rattle.std.specs.Prelude.{ℕ, ◌<◌, ◌≡◌, List, true, false, length}
+use Rattle.std.specs.Prelude.{ℕ, ◌<◌, ◌≡◌, List, true, false, length, Result, Ok, Err}
 use Rattle.graph.specs.Graph.{Graph, Acceptable}
-use Rattle.graph.specs.Refusals.{Numbered, ◌at◌, numbered}
+use Rattle.graph.specs.Refusals.{Numbered, ◌at◌, numbered, Judged}
 use Rattle.graph.specs.Judge.{Refuses}
 use Rattle.graph.specs.declared.Refusal.{Refusal}
 use Rattle.verdict.specs.Verdict.{SetsLong}
@@ -13,7 +13,11 @@ use Rattle.machine.specs.declared.Inspection.{Inspection}
 use Rattle.machine.specs.declared.Inspection.TheVariants as answer
 use Rattle.stacks.specs.Machine.{rights_of, Inspected, stack_of, full, quick}
 
--- What an answer says: passes or fails, and how many frames were looked at.
+-- An inspection, or why there is none.
+abbrev pub Answer : Type 0
+Answer = Result Inspection Refusal
+
+-- What an inspection says: passes or fails, and how many frames were looked at.
 pub data SaysSo : Inspection → Inspected → Type 0 where
   passes : {n : ℕ} → SaysSo (answer.Passes n) (record { passes = true; looked = n })
   fails : {n : ℕ} → SaysSo (answer.Fails n) (record { passes = false; looked = n })
@@ -30,13 +34,18 @@ pub data AskRefuses (g : Graph) (low : Type 0) (stack : List ℕ) (height : ℕ)
   asked : Acceptable g → (low → ⊥) → AskRefuses g low stack height (5 at 0)
   stack : Acceptable g → low → (StackFits g.size.n stack height → ⊥) → AskRefuses g low stack height (6 at 0)
 
-pub data FullAnswers (g : Graph) (stack : List ℕ) (height p : ℕ) : Inspection → Type 0 where
-  refused : {r : Refusal} → AskRefuses g (p < g.size.k) stack height (numbered r) → FullAnswers g stack height p (answer.Refused r)
-  looked : {a : Inspection} → Asks g (p < g.size.k) stack height → SaysSo a (full (rights_of g) p (stack_of stack height)) → FullAnswers g stack height p a
+-- What `full`, `quick` and `step` judge first.
+pub data JudgesAsked (g : Graph) (low : Type 0) (stack : List ℕ) (height : ℕ) : Judged → Type 0 where
+  may_ask : Asks g low stack height → JudgesAsked g low stack height (Ok tt)
+  refused : {r : Refusal} → AskRefuses g low stack height (numbered r) → JudgesAsked g low stack height (Err r)
+
+pub data FullAnswers (g : Graph) (stack : List ℕ) (height p : ℕ) : Answer → Type 0 where
+  refused : {r : Refusal} → AskRefuses g (p < g.size.k) stack height (numbered r) → FullAnswers g stack height p (Err r)
+  looked : {a : Inspection} → Asks g (p < g.size.k) stack height → SaysSo a (full (rights_of g) p (stack_of stack height)) → FullAnswers g stack height p (Ok a)
 
 -- Refusal 1 also for the denied and granted slices, which are taken as they are.
-pub data QuickAnswers (g : Graph) (denied granted stack : List ℕ) (height p : ℕ) : Inspection → Type 0 where
-  sets : {r : Refusal} → (SetsLong g.size.n (length denied) (length granted) → ⊥) → numbered r ≡ (1 at 0) → QuickAnswers g denied granted stack height p (answer.Refused r)
-  refused : {r : Refusal} → SetsLong g.size.n (length denied) (length granted) → AskRefuses g (p < g.size.k) stack height (numbered r) → QuickAnswers g denied granted stack height p (answer.Refused r)
+pub data QuickAnswers (g : Graph) (denied granted stack : List ℕ) (height p : ℕ) : Answer → Type 0 where
+  sets : {r : Refusal} → (SetsLong g.size.n (length denied) (length granted) → ⊥) → numbered r ≡ (1 at 0) → QuickAnswers g denied granted stack height p (Err r)
+  refused : {r : Refusal} → SetsLong g.size.n (length denied) (length granted) → AskRefuses g (p < g.size.k) stack height (numbered r) → QuickAnswers g denied granted stack height p (Err r)
   looked : {a : Inspection} → SetsLong g.size.n (length denied) (length granted) → Asks g (p < g.size.k) stack height
-      → SaysSo a (quick denied granted p (stack_of stack height)) → QuickAnswers g denied granted stack height p a
+      → SaysSo a (quick denied granted p (stack_of stack height)) → QuickAnswers g denied granted stack height p (Ok a)

@@ -1,298 +1,192 @@
-// The inspections of a stack, and its steps.
+// The inspections of a stack, and its steps. A stack is lent as a slice and a height, bottom first, and not as a slice of its frames alone:
+// a height above the slice's length is a question that is refused (6), and a step may write above the height.
 #![tactic(auto)]
 
-ghost use Rattle.std.specs.Prelude.{◌≡◌, ◌<◌, ◌≤◌, length};
-ghost use Rattle.truth.specs.Truth.{Says, All};
-ghost use Rattle.graph.specs.Graph.{graph_of, edges_of, EdgesLong};
-ghost use Rattle.frames.specs.Frames.{Frame};
-ghost use Rattle.stacks.specs.Machine.{stack_of, rights, full, quick};
-ghost use Rattle.machine.specs.Inspect.{SaysSo, FullAnswers, QuickAnswers};
-ghost use Rattle.machine.specs.Steps.{Denied, Steps};
-ghost use Rattle.machine.specs.Steps.Parts.{Placed, Takes};
+ghost use Rattle.std.specs.Prelude.{◌≡◌, ◌<◌, ◌≤◌, ℕ, List, length};
+ghost use Rattle.truth.specs.Truth.{Says};
+ghost use Rattle.graph.specs.Graph.{Acceptable, NodesLong, map_node};
+ghost use Rattle.graph.specs.Lent.{lent, nodes_lent};
+ghost use Rattle.frames.specs.Frames.{StackFits};
+ghost use Rattle.stacks.specs.Machine.{Inspected, stack_of, rights, full, quick};
+ghost use Rattle.machine.specs.Inspect.{SaysSo, Asks, JudgesAsked, FullAnswers, QuickAnswers};
+ghost use Rattle.machine.specs.Inspect.Looking.{AtFrame, Decides};
+ghost use Rattle.machine.specs.Steps.{DeniedOf, Steps};
+ghost use Rattle.machine.specs.Steps.Parts.{Placed};
 
-use graph::{Judged, Refusal, Size};
+use graph::{LentGraph, LentNodes, Refusal};
 use sets::Set;
+use verdict::LentSets;
 
 // Whether the permission passes, with how many frames were looked at, the deciding one included.
-#[derive(Drop)]
+#[derive(Clone, Copy, PartialEq, Eq)]
 pub enum Inspection {
     Passes(usize),
     Fails(usize),
-    Refused(Refusal),
 }
 
-// The stack's new height.
-#[derive(Drop)]
-pub enum Stepped {
-    Moved(usize),
-    Refused(Refusal),
+// What a frame of this node says of the permission by the full rule: it passes, it fails, or the frames below decide.
+fn by_rights(nodes: &LentNodes, p: usize, node: usize) -> Option<bool>
+    requires long { length nodes.now.privileged.now ≡ length nodes.now.grants.now }
+    requires node { node < length nodes.now.grants.now }
+    ensures { AtFrame (full (rights nodes.now.privileged.now nodes.now.grants.now) p) node result }
+{
+    let own = Set {
+        bits: nodes.grants[node],
+    };
+    if !own.has(p) {
+        return Some(false);
+    }
+    rules::is_privileged(nodes.privileged[node], p).then_some(true)
 }
 
-// Where a step writes the next node.
-#[derive(Drop)]
-enum Place {
-    At(usize),
-    Nowhere,
+// The same by the denied and granted sets.
+fn by_sets(sets: &LentSets, p: usize, node: usize) -> Option<bool>
+    requires long { length sets.now.granted.now ≡ length sets.now.denied.now }
+    requires node { node < length sets.now.denied.now }
+    ensures { AtFrame (quick sets.now.denied.now sets.now.granted.now p) node result }
+{
+    let fails = Set {
+        bits: sets.denied[node],
+    };
+    if fails.has(p) {
+        return Some(false);
+    }
+    let passes = Set {
+        bits: sets.granted[node],
+    };
+    passes.has(p).then_some(true)
 }
 
-// Full inspection, from the top down.
-fn look_full(
-    privileged: &[u8],
-    grants: &[u64],
+// Goes down from the top frame, until the node of one decides.
+fn look<F: Fn(usize) -> Option<bool>>(stack: &[u16], height: usize, decide: F) -> Inspection
+    ghost rule: { List ℕ → Inspected }
+    requires held { height ≤ length stack.now }
+    requires decides { Decides (F.pre decide) (F.post decide) rule stack.now height }
+    ensures { SaysSo result (rule (stack_of stack.now height)) }
+{
+    for i in (0..height).rev() {
+        match decide(stack[i] as usize) {
+            Some(true) => return Inspection::Passes(height - i),
+            Some(false) => return Inspection::Fails(height - i),
+            None => {}
+        }
+    }
+    Inspection::Passes(height)
+}
+
+// Full inspection of a stack that fits.
+fn look_full(nodes: &LentNodes, stack: &[u16], height: usize, p: usize) -> Inspection
+    requires long { NodesLong (length nodes.now.grants.now) (map_node length (nodes_lent nodes.now)) }
+    requires fits { StackFits (length nodes.now.grants.now) stack.now height }
+    ensures { SaysSo result (full (rights nodes.now.privileged.now nodes.now.grants.now) p (stack_of stack.now height)) }
+{
+    look(stack, height, |node| by_rights(nodes, p, node))
+}
+
+// Whether an accepted graph is lent, what is asked for is below its limit, and the stack fits.
+fn judge_asked(
+    graph: &LentGraph,
+    asked: usize,
+    limit: usize,
     stack: &[u16],
     height: usize,
-    p: usize,
-) -> Inspection
-    requires sizes { (height ≤ length stack.now) × (height ≤ 1024) × (length privileged.now ≡ length grants.now) }
-    requires frames { All (Frame (length grants.now) stack.now) height }
-    ensures { SaysSo result (full (rights privileged.now grants.now) p (stack_of stack.now height)) }
+) -> Result<(), Refusal>
+    ensures { JudgesAsked (lent graph.now) (asked < limit) stack.now height result }
 {
-    let mut h = height;
-    while 0 < h {
-        let i = stack[h - 1] as usize;
-        let own = Set { bits: grants[i] };
-        if !own.has(p) {
-            return Inspection::Fails(height - h + 1);
-        }
-        if rules::is_privileged(privileged[i], p) {
-            return Inspection::Passes(height - h + 1);
-        }
-        h -= 1;
+    judge::check(graph)?;
+    if limit <= asked {
+        return Err(Refusal::Asked);
     }
-    Inspection::Passes(height)
-}
-
-// Quick inspection, from the top down, by the denied and granted sets.
-fn look_quick(denied: &[u64], granted: &[u64], stack: &[u16], height: usize, p: usize) -> Inspection
-    requires sizes { (height ≤ length stack.now) × (height ≤ 1024) × (length granted.now ≡ length denied.now) }
-    requires frames { All (Frame (length denied.now) stack.now) height }
-    ensures { SaysSo result (quick denied.now granted.now p (stack_of stack.now height)) }
-{
-    let mut h = height;
-    while 0 < h {
-        let i = stack[h - 1] as usize;
-        let fails = Set { bits: denied[i] };
-        if fails.has(p) {
-            return Inspection::Fails(height - h + 1);
-        }
-        let passes = Set { bits: granted[i] };
-        if passes.has(p) {
-            return Inspection::Passes(height - h + 1);
-        }
-        h -= 1;
+    if !frames::stack_fits(graph.size.n, stack, height) {
+        return Err(Refusal::Stack);
     }
-    Inspection::Passes(height)
+    Ok(())
 }
 
 // Whether full inspection of the stack passes the permission.
 pub fn full(
-    size: Size,
-    kinds: &[u8],
-    checks: &[u16],
-    privileged: &[u8],
-    entries: &[u8],
-    grants: &[u64],
-    froms: &[u16],
-    tos: &[u16],
-    ways: &[u8],
+    graph: &LentGraph,
     stack: &[u16],
     height: usize,
     p: usize,
-) -> Inspection
-    ensures { FullAnswers (graph_of size kinds.now checks.now privileged.now entries.now grants.now froms.now tos.now ways.now) stack.now height p result }
+) -> Result<Inspection, Refusal>
+    ensures { FullAnswers (lent graph.now) stack.now height p result }
 {
-    let k = size.k;
-    let n = size.n;
-    let judged = judge::check(
-        size, kinds, checks, privileged, entries, grants, froms, tos, ways,
-    );
-    if let Judged::Refused(why) = judged {
-        return Inspection::Refused(why);
-    }
-    if k <= p {
-        return Inspection::Refused(Refusal::Asked);
-    }
-    if !frames::stack_fits(n, stack, height) {
-        return Inspection::Refused(Refusal::Stack);
-    }
-    look_full(privileged, grants, stack, height, p)
+    judge_asked(graph, p, graph.size.k, stack, height)?;
+    Ok(look_full(&graph.nodes, stack, height, p))
 }
 
 // Whether quick inspection of the stack, by the denied and granted sets as they are, passes the permission.
 pub fn quick(
-    size: Size,
-    kinds: &[u8],
-    checks: &[u16],
-    privileged: &[u8],
-    entries: &[u8],
-    grants: &[u64],
-    froms: &[u16],
-    tos: &[u16],
-    ways: &[u8],
-    denied: &[u64],
-    granted: &[u64],
+    graph: &LentGraph,
+    sets: &LentSets,
     stack: &[u16],
     height: usize,
     p: usize,
-) -> Inspection
-    ensures { QuickAnswers (graph_of size kinds.now checks.now privileged.now entries.now grants.now froms.now tos.now ways.now) denied.now granted.now stack.now height p result }
+) -> Result<Inspection, Refusal>
+    ensures { QuickAnswers (lent graph.now) sets.now.denied.now sets.now.granted.now stack.now height p result }
 {
-    let k = size.k;
-    let n = size.n;
-    if !verdict::sets_long(n, denied.len(), granted.len()) {
-        return Inspection::Refused(Refusal::Shape);
+    if !verdict::sets_long(graph.size.n, sets) {
+        return Err(Refusal::Shape);
     }
-    let judged = judge::check(
-        size, kinds, checks, privileged, entries, grants, froms, tos, ways,
-    );
-    if let Judged::Refused(why) = judged {
-        return Inspection::Refused(why);
-    }
-    if k <= p {
-        return Inspection::Refused(Refusal::Asked);
-    }
-    if !frames::stack_fits(n, stack, height) {
-        return Inspection::Refused(Refusal::Stack);
-    }
-    look_quick(denied, granted, stack, height, p)
+    judge_asked(graph, p, graph.size.k, stack, height)?;
+    Ok(look(stack, height, |node| by_sets(sets, p, node)))
 }
 
 // Where a rule writes the next node, inspection set aside.
-fn find_place(
-    m: usize,
-    kinds: &[u8],
-    entries: &[u8],
-    froms: &[u16],
-    tos: &[u16],
-    ways: &[u8],
-    stack: &[u16],
-    height: usize,
-    next: usize,
-) -> Place
-    requires sizes { EdgesLong m (edges_of (length froms.now) (length tos.now) (length ways.now)) × (next < length entries.now) × (height ≤ length stack.now) }
-    requires frames { All (Frame (length kinds.now) stack.now) height }
-    ensures { Placed kinds.now entries.now m (edges_of froms.now tos.now ways.now) stack.now height next result }
+fn find_place(graph: &LentGraph, stack: &[u16], height: usize, next: usize) -> Option<usize>
+    requires { Asks (lent graph.now) (next < graph.now.size.n) stack.now height }
+    ensures { Placed (lent graph.now) stack.now height next result }
 {
     if height == 0 {
-        if entries[next] == graph::MARKED {
-            return Place::At(0);
-        }
-        return Place::Nowhere;
+        return (graph.nodes.entries[next] == graph::MARKED).then_some(0);
     }
+    let m = graph.size.m;
+    let edges = &graph.edges;
     let top = stack[height - 1] as usize;
-    let kind = kinds[top];
-    if kind == graph::KIND_CALL {
-        if edges::lead(m, froms, tos, ways, graph::CALL, top, next) {
-            return Place::At(height);
+    match graph.nodes.kinds[top] {
+        graph::KIND_CALL => edges::lead(m, edges, graph::CALL, top, next).then_some(height),
+        graph::KIND_CHECK => edges::lead(m, edges, graph::TRANSFER, top, next).then_some(height - 1),
+        graph::KIND_RETURN if 2 <= height => {
+            let lower = stack[height - 2] as usize;
+            edges::lead(m, edges, graph::TRANSFER, lower, next).then_some(height - 2)
         }
-        return Place::Nowhere;
+        _ => None,
     }
-    if kind == graph::KIND_CHECK {
-        if edges::lead(m, froms, tos, ways, graph::TRANSFER, top, next) {
-            return Place::At(height - 1);
-        }
-        return Place::Nowhere;
-    }
-    if kind != graph::KIND_RETURN {
-        return Place::Nowhere;
-    }
-    if height < 2 {
-        return Place::Nowhere;
-    }
-    let lower = stack[height - 2] as usize;
-    if edges::lead(m, froms, tos, ways, graph::TRANSFER, lower, next) {
-        return Place::At(height - 2);
-    }
-    Place::Nowhere
 }
 
 // Whether the check on top is denied.
-fn top_denied(
-    kinds: &[u8],
-    checks: &[u16],
-    privileged: &[u8],
-    grants: &[u64],
-    stack: &[u16],
-    height: usize,
-) -> bool
-    requires sizes { (height ≤ length stack.now) × (height ≤ 1024) × (length privileged.now ≡ length grants.now) × (length kinds.now ≡ length grants.now) × (length checks.now ≡ length grants.now) }
-    requires frames { All (Frame (length grants.now) stack.now) height }
-    ensures { Says (Denied kinds.now checks.now (rights privileged.now grants.now) stack.now height) result }
+fn top_denied(graph: &LentGraph, stack: &[u16], height: usize) -> bool
+    requires accepted { Acceptable (lent graph.now) }
+    requires fits { StackFits graph.now.size.n stack.now height }
+    ensures { Says (DeniedOf (lent graph.now) stack.now height) result }
 {
     if height == 0 {
         return false;
     }
+    let nodes = &graph.nodes;
     let top = stack[height - 1] as usize;
-    if kinds[top] != graph::KIND_CHECK {
-        return false;
-    }
-    match look_full(privileged, grants, stack, height, checks[top] as usize) {
-        Inspection::Passes(looked) => false,
-        Inspection::Fails(looked) => true,
-        Inspection::Refused(why) => false,
-    }
-}
-
-// The step, once its place is known.
-fn move_to(
-    stack: &mut [u16],
-    height: usize,
-    next: usize,
-    place: usize,
-    kinds: &[u8],
-    checks: &[u16],
-    privileged: &[u8],
-    grants: &[u64],
-) -> Stepped
-    requires sizes { (height ≤ length stack.old) × (height ≤ 1024) × (length privileged.now ≡ length grants.now) × (length kinds.now ≡ length grants.now) × (length checks.now ≡ length grants.now) × (next < 65536) × (place ≤ 1024) }
-    requires frames { All (Frame (length grants.now) stack.old) height }
-    ensures { Takes (Denied kinds.now checks.now (rights privileged.now grants.now) stack.old height) stack.old next place result stack.new }
-{
-    if top_denied(kinds, checks, privileged, grants, stack, height) {
-        return Stepped::Refused(Refusal::Denied);
-    }
-    if stack.len() <= place {
-        return Stepped::Refused(Refusal::NoRoom);
-    }
-    stack[place] = next as u16;
-    Stepped::Moved(place + 1)
+    nodes.kinds[top] == graph::KIND_CHECK
+        && matches!(look_full(nodes, stack, height, nodes.checks[top] as usize), Inspection::Fails(_))
 }
 
 // Takes the step that names the next node, or refuses.
 pub fn step(
-    size: Size,
-    kinds: &[u8],
-    checks: &[u16],
-    privileged: &[u8],
-    entries: &[u8],
-    grants: &[u64],
-    froms: &[u16],
-    tos: &[u16],
-    ways: &[u8],
+    graph: &LentGraph,
     stack: &mut [u16],
     height: usize,
     next: usize,
-) -> Stepped
-    ensures { Steps (graph_of size kinds.now checks.now privileged.now entries.now grants.now froms.now tos.now ways.now) stack.old height next result stack.new }
+) -> Result<usize, Refusal>
+    ensures { Steps (lent graph.now) stack.old height next result stack.new }
 {
-    let n = size.n;
-    let m = size.m;
-    let judged = judge::check(
-        size, kinds, checks, privileged, entries, grants, froms, tos, ways,
-    );
-    if let Judged::Refused(why) = judged {
-        return Stepped::Refused(why);
+    judge_asked(graph, next, graph.size.n, stack, height)?;
+    let place = find_place(graph, stack, height, next).ok_or(Refusal::NoRule)?;
+    if top_denied(graph, stack, height) {
+        return Err(Refusal::Denied);
     }
-    if n <= next {
-        return Stepped::Refused(Refusal::Asked);
+    if stack.len() <= place {
+        return Err(Refusal::NoRoom);
     }
-    if !frames::stack_fits(n, stack, height) {
-        return Stepped::Refused(Refusal::Stack);
-    }
-    match find_place(m, kinds, entries, froms, tos, ways, stack, height, next) {
-        Place::Nowhere => Stepped::Refused(Refusal::NoRule),
-        Place::At(place) => move_to(
-            stack, height, next, place, kinds, checks, privileged, grants,
-        ),
-    }
+    stack[place] = next as u16;
+    Ok(place + 1)
 }

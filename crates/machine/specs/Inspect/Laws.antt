@@ -1,5 +1,5 @@
 -- One answer for every input.
-use Rattle.std.specs.Prelude.{ℕ, ◌≡◌, refl, List, cond}
+use Rattle.std.specs.Prelude.{ℕ, ◌≡◌, refl, List, cond, Ok, Err}
 use Rattle.std.proofs.Common.{sym, ◌∙◌, ap}
 use Rattle.graph.specs.Graph.{Graph}
 use Rattle.graph.specs.Refusals.{Numbered}
@@ -8,7 +8,7 @@ use Rattle.graph.specs.Judge.Laws.{refuses_one, refuses_not}
 use Rattle.machine.specs.declared.Inspection.{Inspection}
 use Rattle.machine.specs.declared.Inspection.TheVariants as answer
 use Rattle.stacks.specs.Machine.{Inspected}
-use Rattle.machine.specs.Inspect.{SaysSo, passes, fails, Asks, AskRefuses, graph, asked, stack, FullAnswers, QuickAnswers}
+use Rattle.machine.specs.Inspect.{Answer, SaysSo, passes, fails, Asks, AskRefuses, graph, asked, stack, FullAnswers, QuickAnswers}
 
 -- an answer that says so is fixed by what it says
 answer_of : Inspected → Inspection
@@ -37,20 +37,20 @@ module _ (g : Graph) {low : Type 0} {s : List ℕ} {h : ℕ} where
   refusal_not (stack _ _ d) a = d a.fits
 
 module _ (g : Graph) (s : List ℕ) (h p : ℕ) where
-  pub full_one : {a b : Inspection} → FullAnswers g s h p a → FullAnswers g s h p b → a ≡ b
-  full_one (FullAnswers.refused {r = a} f) (FullAnswers.refused {r = b} k) = ap answer.Refused (numbered_one a b (refusal_one g f k))
+  pub full_one : {a b : Answer} → FullAnswers g s h p a → FullAnswers g s h p b → a ≡ b
+  full_one (FullAnswers.refused {r = a} f) (FullAnswers.refused {r = b} k) = ap Err (numbered_one a b (refusal_one g f k))
   full_one (FullAnswers.refused f) (FullAnswers.looked a _) = absurd (refusal_not g f a)
   full_one (FullAnswers.looked a _) (FullAnswers.refused f) = absurd (refusal_not g f a)
-  full_one (FullAnswers.looked _ x) (FullAnswers.looked _ z) = said x ∙ sym (said z)
+  full_one (FullAnswers.looked _ x) (FullAnswers.looked _ z) = ap Ok (said x ∙ sym (said z))
 
   module _ (d a : List ℕ) where
-    pub quick_one : {u v : Inspection} → QuickAnswers g d a s h p u → QuickAnswers g d a s h p v → u ≡ v
-    quick_one (QuickAnswers.sets {r = x} f e) (QuickAnswers.sets {r = z} k i) = ap answer.Refused (numbered_one x z (e ∙ sym i))
+    pub quick_one : {u v : Answer} → QuickAnswers g d a s h p u → QuickAnswers g d a s h p v → u ≡ v
+    quick_one (QuickAnswers.sets {r = x} f e) (QuickAnswers.sets {r = z} k i) = ap Err (numbered_one x z (e ∙ sym i))
     quick_one (QuickAnswers.sets f e) (QuickAnswers.refused l k) = absurd (f l)
     quick_one (QuickAnswers.sets f e) (QuickAnswers.looked l _ _) = absurd (f l)
     quick_one (QuickAnswers.refused l k) (QuickAnswers.sets f e) = absurd (f l)
-    quick_one (QuickAnswers.refused {r = x} _ f) (QuickAnswers.refused {r = z} _ k) = ap answer.Refused (numbered_one x z (refusal_one g f k))
+    quick_one (QuickAnswers.refused {r = x} _ f) (QuickAnswers.refused {r = z} _ k) = ap Err (numbered_one x z (refusal_one g f k))
     quick_one (QuickAnswers.refused _ f) (QuickAnswers.looked _ k _) = absurd (refusal_not g f k)
     quick_one (QuickAnswers.looked l _ _) (QuickAnswers.sets f e) = absurd (f l)
     quick_one (QuickAnswers.looked _ k _) (QuickAnswers.refused _ f) = absurd (refusal_not g f k)
-    quick_one (QuickAnswers.looked _ _ x) (QuickAnswers.looked _ _ z) = said x ∙ sym (said z)
+    quick_one (QuickAnswers.looked _ _ x) (QuickAnswers.looked _ _ z) = ap Ok (said x ∙ sym (said z))

@@ -1,10 +1,26 @@
--- An inspection of a slice, frame by frame from the top down: what the loops of `look_full` and `look_quick` keep, and their four ways on.
-use Rattle.std.specs.Prelude.{ℕ, ◌+◌, ◌-◌, ◌<◌, ◌≤◌, ◌≡◌, List, [], ◌∷◌, Bool, true, false, get_or}
+-- An inspection of a slice, frame by frame from the top down: what the loop of `look` keeps, and its four ways on.
+use Rattle.std.specs.Prelude.{ℕ, ◌+◌, ◌-◌, ◌<◌, ◌≤◌, ◌≡◌, List, [], ◌∷◌, Bool, true, false, get_or, Option, Some, None}
 use Rattle.std.proofs.Common.{◌∙◌, ap, arith}
+use Rattle.truth.specs.Truth.{All}
 use Rattle.machine.specs.declared.Inspection.TheVariants as answer
 use Rattle.stacks.specs.Machine.{Inspected, decided, below, bottom, stack_of}
-use Rattle.stacks.specs.Machine.Slices.{bare, topped}
+use Rattle.stacks.specs.Machine.Slices.{bare, on_top}
 use Rattle.machine.specs.Inspect.{SaysSo, passes, fails}
+
+-- What comes of a frame's answer v, where down is the answer of the frames below it.
+abbrev pub decided_by : (v : Option Bool) (down : Inspected) → Inspected
+decided_by (Some b) down = decided b
+decided_by None down = below down
+
+-- By the inspection `look` a frame of this node decides, or the frames below it do, as v says.
+abbrev pub AtFrame : (look : List ℕ → Inspected) (node : ℕ) (v : Option Bool) → Type 0
+AtFrame look node v = (r : List ℕ) → look (node ∷ r) ≡ decided_by v (look r)
+
+-- What may be asked of every frame's node, and answers as the inspection `look` goes. Where no frame is left it passes.
+pub record Decides (may_ask : ℕ → Type 0) (answers : ℕ → Option Bool → Type 0) (look : List ℕ → Inspected) (s : List ℕ) (height : ℕ) : Type 0 where
+  pub asked : All (λ i. may_ask (get_or s i 0)) height
+  pub answered : (i : ℕ) → i < height → (v : Option Bool) → answers (get_or s i 0) v → AtFrame look (get_or s i 0) v
+  pub no_frame : look [] ≡ bottom
 
 -- the answer a of the frames below, k frames having been looked at before them
 abbrev pub further : ℕ → Inspected → Inspected
@@ -27,32 +43,28 @@ says_fails e = rw e fails
 pub looking_start : (look : List ℕ → Inspected) (s : List ℕ) (height : ℕ) → Looking look s height height
 looking_start look s height = record { left = omega arith; same = ap (looked_at (look (stack_of s height)).passes) (omega arith) }
 
-module _ {look : List ℕ → Inspected} {s : List ℕ} {height h : ℕ} (l : Looking look s height h) where
-  module _ (some : 0 < h) where
-    -- the top frame decides
-    here : {b : Bool} → look (get_or s (h - 1) 0 ∷ stack_of s (h - 1)) ≡ decided b → look (stack_of s height) ≡ looked_at b (height - h + 1)
-    here e = l.same ∙ ap (λ (x : List ℕ). further (height - h) (look x)) (topped s h some) ∙ ap (further (height - h)) e
+-- The frame at place i is the next one, and v is answered of its node.
+module _ {look : List ℕ → Inspected} {s : List ℕ} {height i : ℕ} (l : Looking look s height (i + 1)) where
+  next : {v : Option Bool} → AtFrame look (get_or s i 0) v → look (stack_of s height) ≡ further (height - (i + 1)) (decided_by v (look (stack_of s i)))
+  next a = l.same ∙ ap (λ (x : List ℕ). further (height - (i + 1)) (look x)) (on_top s i) ∙ ap (further (height - (i + 1))) (a (stack_of s i))
 
-    pub looking_passes : look (get_or s (h - 1) 0 ∷ stack_of s (h - 1)) ≡ decided true → SaysSo (answer.Passes (height - h + 1)) (look (stack_of s height))
-    looking_passes e = says_passes (here e)
+  here : {b : Bool} → AtFrame look (get_or s i 0) (Some b) → look (stack_of s height) ≡ looked_at b (height - i)
+  here {b} a = next a ∙ ap (looked_at b) (omega (arith, l.left))
 
-    pub looking_fails : look (get_or s (h - 1) 0 ∷ stack_of s (h - 1)) ≡ decided false → SaysSo (answer.Fails (height - h + 1)) (look (stack_of s height))
-    looking_fails e = says_fails (here e)
+  pub looking_passes : AtFrame look (get_or s i 0) (Some true) → SaysSo (answer.Passes (height - i)) (look (stack_of s height))
+  looking_passes a = says_passes (here a)
 
-    -- the frames below it decide
-    pub looking_below : look (get_or s (h - 1) 0 ∷ stack_of s (h - 1)) ≡ below (look (stack_of s (h - 1))) → Looking look s height (h - 1)
-    looking_below e = record {
-      left = omega (arith, l.left);
-      same =
-          l.same ∙ ap (λ (x : List ℕ). further (height - h) (look x)) (topped s h some) ∙ ap (further (height - h)) e
-          ∙ ap (looked_at (look (stack_of s (h - 1))).passes) (omega (arith, l.left, some));
-    }
+  pub looking_fails : AtFrame look (get_or s i 0) (Some false) → SaysSo (answer.Fails (height - i)) (look (stack_of s height))
+  looking_fails a = says_fails (here a)
 
-  -- no frame is left
-  pub looking_end : h ≤ 0 → look [] ≡ bottom → SaysSo (answer.Passes height) (look (stack_of s height))
-  looking_end none e =
-      let out : h ≡ 0 = omega (arith, none) in
-      says_passes (
-      l.same ∙ ap (λ (x : ℕ). further (height - x) (look (stack_of s x))) out ∙ ap (λ (x : List ℕ). further (height - 0) (look x)) (bare s)
-      ∙ ap (further (height - 0)) e ∙ ap (looked_at true) (omega arith)
-      )
+  pub looking_below : AtFrame look (get_or s i 0) None → Looking look s height i
+  looking_below a = record {
+    left = omega (arith, l.left);
+    same = next a ∙ ap (looked_at (look (stack_of s i)).passes) (omega (arith, l.left));
+  }
+
+-- no frame is left
+pub looking_end : {look : List ℕ → Inspected} {s : List ℕ} {height : ℕ} → Looking look s height 0 → look [] ≡ bottom → SaysSo (answer.Passes height) (look (stack_of s height))
+looking_end {look} {s} {height} l e =
+    says_passes
+    (l.same ∙ ap (λ (x : List ℕ). further (height - 0) (look x)) (bare s) ∙ ap (further (height - 0)) e ∙ ap (looked_at true) (omega arith))

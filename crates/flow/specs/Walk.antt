@@ -9,12 +9,14 @@ use Rattle.sets.specs.Sets.{has, empty, all, join, common, without, add}
 use Rattle.graph.specs.Graph.{Graph, privileged_by, is_check, check, Acceptable, System, may, sure, Outs, Arrival, arriving, in_set, past_set, out_set, Within, held}
 use Rattle.graph.specs.Graph.Arrivals.{Arrives}
 use Rattle.worklist.specs.Worklist.{fresh, Stacked}
+use Rattle.flow.specs.declared.System.{System as Named}
+use Rattle.flow.specs.declared.System.TheVariants.{May, Sure}
 
 -- ---- numbers
 
-abbrev pub system_of : Bool → System
-system_of true = sure
-system_of false = may
+abbrev pub system_of : Named → System
+system_of May = may
+system_of Sure = sure
 
 -- what a sum is before anything arrives, and with one set more
 unfoldable pub start : System → ℕ → ℕ

@@ -5,26 +5,36 @@ ghost use Rattle.std.specs.Prelude.{◌≡◌};
 ghost use Rattle.sets.specs.Sets.{has};
 ghost use Rattle.flow.specs.Walk.{system_of, start, merge, call_num, denied_num, past_num, trans_num, Leaves, edge_num, judged_num, counts_num, start_ins, start_past};
 
+use graph::Node;
 use sets::Set;
 
+// The two systems of equations: what may be held, and what surely is.
+#[derive(Clone, Copy, PartialEq, Eq)]
+pub enum System {
+    May,
+    Sure,
+}
+
 // One set more arrives: MAY joins it, SURE takes the common part.
-pub fn merge(sure: bool, sum: u64, more: u64) -> u64
-    ensures { result ≡ merge (system_of sure) sum more }
+pub fn merge(system: System, sum: u64, more: u64) -> u64
+    ensures { result ≡ merge (system_of system) sum more }
 {
-    if sure {
-        return Set { bits: sum }.common(Set { bits: more }).bits;
+    let sum = Set { bits: sum };
+    let more = Set { bits: more };
+    match system {
+        System::May => sum.join(more).bits,
+        System::Sure => sum.common(more).bits,
     }
-    Set { bits: sum }.join(Set { bits: more }).bits
 }
 
 // A sum before anything arrives.
-fn start(sure: bool, k: usize) -> u64
-    ensures { result ≡ start (system_of sure) k }
+fn start(system: System, k: usize) -> u64
+    ensures { result ≡ start (system_of system) k }
 {
-    if sure {
-        return Set::all(k).bits;
+    match system {
+        System::May => Set::EMPTY.bits,
+        System::Sure => Set::all(k).bits,
     }
-    Set::EMPTY.bits
 }
 
 // The call set of a node with the sum `arrived`.
@@ -32,99 +42,85 @@ pub fn called(privileged: u8, grants: u64, arrived: u64) -> u64
     ensures { result ≡ call_num privileged grants arrived }
 {
     if privileged == graph::MARKED {
-        return grants;
+        grants
+    } else {
+        arrived
     }
-    arrived
 }
 
-// What is past an unprivileged check with the sum `past` of what passes it.
-fn passed(sure: bool, check: u16, past: u64, any: u64) -> u64
-    ensures { result ≡ past_num (system_of sure) check past (has any check) }
+// The sums of a node: of all that arrives, and of what arrives and passes its check; and MAY's sum of what passes, which tells SURE
+// whether anything does.
+#[derive(Clone, Copy)]
+pub struct Arrived {
+    pub all: u64,
+    pub past: u64,
+    pub any: u64,
+}
+
+// What is past an unprivileged check.
+fn passed(system: System, check: u16, arrived: Arrived) -> u64
+    ensures { result ≡ past_num (system_of system) check arrived.past (has arrived.any check) }
 {
-    if !sure {
-        return past;
-    }
     let p = check as usize;
-    let all = Set { bits: any };
-    if all.has(p) {
-        return Set { bits: past }.add(p).bits;
+    let any = Set { bits: arrived.any };
+    let past = Set { bits: arrived.past };
+    match system {
+        System::May => past.bits,
+        System::Sure if any.has(p) => past.add(p).bits,
+        System::Sure => Set::EMPTY.bits,
     }
-    Set::EMPTY.bits
 }
 
 // The trans set of a node, from its sum and what is past its check.
-fn moved(kind: u8, check: u16, privileged: u8, grants: u64, arrived: u64, past: u64) -> u64
-    ensures { result ≡ trans_num kind check privileged grants arrived past }
+fn moved(node: Node, arrived: u64, past: u64) -> u64
+    ensures { result ≡ trans_num node.kind node.check node.privileged node.grants arrived past }
 {
-    if kind != graph::KIND_CHECK {
+    if node.kind != graph::KIND_CHECK {
         return arrived;
     }
-    let p = check as usize;
-    if !rules::is_privileged(privileged, p) {
+    let p = node.check as usize;
+    if !rules::is_privileged(node.privileged, p) {
         return past;
     }
-    let own = Set { bits: grants };
-    if own.has(p) {
-        return arrived;
-    }
-    Set::EMPTY.bits
+    let own = Set { bits: node.grants };
+    if own.has(p) { arrived } else { Set::EMPTY.bits }
 }
 
-// The out set of an edge, from its from node's call and trans sets and its to node's grants.
-pub fn carry(way: u8, called: u64, moved: u64, into: u64) -> u64
-    ensures { result ≡ edge_num way called moved into }
+// The trans set of a node. Most nodes are no checks, and there nothing else is looked at.
+fn beyond(system: System, node: Node, arrived: Arrived) -> u64
+    ensures { result ≡ trans_num node.kind node.check node.privileged node.grants arrived.all (past_num (system_of system) node.check arrived.past (has arrived.any node.check)) }
 {
-    if way == graph::CALL {
-        return Set { bits: called }.common(Set { bits: into }).bits;
+    if node.kind != graph::KIND_CHECK {
+        return arrived.all;
     }
-    moved
-}
-
-// The trans set of a node with the sums `arrived` and `past`. Most nodes are no checks, and there nothing else is looked at.
-fn beyond(
-    sure: bool,
-    kind: u8,
-    check: u16,
-    privileged: u8,
-    grants: u64,
-    arrived: u64,
-    past: u64,
-    any: u64,
-) -> u64
-    ensures { result ≡ trans_num kind check privileged grants arrived (past_num (system_of sure) check past (has any check)) }
-{
-    if kind != graph::KIND_CHECK {
-        return arrived;
-    }
-    let passed = passed(sure, check, past, any);
-    moved(kind, check, privileged, grants, arrived, passed)
+    moved(node, arrived.all, passed(system, node.check, arrived))
 }
 
 // What leaves a node: its call set and its trans set.
-#[derive(Drop)]
+#[derive(Clone, Copy)]
 pub struct Leaving {
     pub call: u64,
     pub trans: u64,
 }
 
-// What leaves a node with the sums `arrived` and `past`. MAY's sum of what passes the check, `any`, tells SURE whether anything does.
-pub fn leave(
-    sure: bool,
-    kind: u8,
-    check: u16,
-    privileged: u8,
-    grants: u64,
-    arrived: u64,
-    past: u64,
-    any: u64,
-) -> Leaving
-    ensures { Leaves (system_of sure) kind check privileged grants arrived past any result.call result.trans }
+pub fn leave(system: System, node: Node, arrived: Arrived) -> Leaving
+    ensures { Leaves (system_of system) node.kind node.check node.privileged node.grants arrived.all arrived.past arrived.any result.call result.trans }
 {
-    let call = called(privileged, grants, arrived);
-    let trans = beyond(sure, kind, check, privileged, grants, arrived, past, any);
     Leaving {
-        call: call,
-        trans: trans,
+        call: called(node.privileged, node.grants, arrived.all),
+        trans: beyond(system, node, arrived),
+    }
+}
+
+// The out set of an edge, from what leaves its from node and its to node's grants.
+pub fn carry(way: u8, leaving: Leaving, into: u64) -> u64
+    ensures { result ≡ edge_num way leaving.call leaving.trans into }
+{
+    let call = Set { bits: leaving.call };
+    if way == graph::CALL {
+        call.common(Set { bits: into }).bits
+    } else {
+        leaving.trans
     }
 }
 
@@ -139,45 +135,44 @@ pub fn deny(k: usize, privileged: u8, grants: u64, arrived: u64) -> u64
 }
 
 // The set by which the set v of an edge is judged: SURE's by `wide`, MAY's out set of the same edge.
-fn judged(sure: bool, wide: u64, v: u64) -> u64
-    ensures { result ≡ judged_num (system_of sure) wide v }
+fn judged(system: System, wide: u64, v: u64) -> u64
+    ensures { result ≡ judged_num (system_of system) wide v }
 {
-    if sure {
-        return wide;
+    match system {
+        System::May => v,
+        System::Sure => wide,
     }
-    v
 }
 
 // Whether the set v of an edge counts at the check of the node that it arrives at.
-pub fn counts(sure: bool, kind: u8, check: u16, wide: u64, v: u64) -> bool
-    ensures { result ≡ counts_num (system_of sure) kind check wide v }
+pub fn counts(system: System, kind: u8, check: u16, wide: u64, v: u64) -> bool
+    ensures { result ≡ counts_num (system_of system) kind check wide v }
 {
-    if kind != graph::KIND_CHECK {
-        return false;
-    }
     let by = Set {
-        bits: judged(sure, wide, v),
+        bits: judged(system, wide, v),
     };
-    by.has(check as usize)
+    kind == graph::KIND_CHECK && by.has(check as usize)
 }
 
-pub fn first_sum(sure: bool, k: usize, entry: u8, grants: u64) -> u64
-    ensures { result ≡ start_ins (system_of sure) k entry grants }
+// A node's sum of all that arrives, before anything but its entry mark does.
+pub fn first_sum(system: System, k: usize, node: Node) -> u64
+    ensures { result ≡ start_ins (system_of system) k node.entry node.grants }
 {
-    if entry == graph::MARKED {
-        return grants;
+    if node.entry == graph::MARKED {
+        node.grants
+    } else {
+        start(system, k)
     }
-    start(sure, k)
 }
 
-pub fn first_passing(sure: bool, k: usize, entry: u8, grants: u64, check: u16) -> u64
-    ensures { result ≡ start_past (system_of sure) k entry grants check }
+// And its sum of what passes its check.
+pub fn first_passing(system: System, k: usize, node: Node) -> u64
+    ensures { result ≡ start_past (system_of system) k node.entry node.grants node.check }
 {
-    let own = Set { bits: grants };
-    if entry == graph::MARKED {
-        if own.has(check as usize) {
-            return grants;
-        }
+    let own = Set { bits: node.grants };
+    if node.entry == graph::MARKED && own.has(node.check as usize) {
+        node.grants
+    } else {
+        start(system, k)
     }
-    start(sure, k)
 }

@@ -3,7 +3,7 @@
 pub mod Filled
 pub mod Linking
 pub mod Stack
-use Rattle.std.specs.Prelude.{ℕ, zero, suc, ◌+◌, ◌-◌, ◌≤◌, ◌<◌, ◌≡◌, List, [], ◌∷◌, Bool, true, false, cond, ◌&&◌, eqb, leb, ltb, length, get_or, set}
+use Rattle.std.specs.Prelude.{ℕ, zero, suc, ◌+◌, ◌-◌, ◌≤◌, ◌<◌, ◌≡◌, List, [], ◌∷◌, Bool, true, false, cond, ◌&&◌, eqb, leb, ltb, length, get_or, set, Option, Some, None}
 use Rattle.truth.specs.Truth.{All}
 
 -- ---- lists of edges
@@ -57,6 +57,11 @@ pub record Put (d st : List ℕ) (top b : ℕ) (new : Bool) (d' st' : List ℕ) 
   pub marks : d' ≡ cond new (set d b 1) d
   pub stack : st' ≡ cond new (set st top b) st
   pub height : top' ≡ cond new (top + 1) top
+
+-- the node on top is taken off, and its mark with it; none is where the stack is empty, or ends below its top
+pub data Takes (d st : List ℕ) : (top : ℕ) → Option ℕ → (d' st' : List ℕ) (top' : ℕ) → Type 0 where
+  taken : {t : ℕ} → t < length st → Takes d st (t + 1) (Some (get_or st t 0)) (set d (get_or st t 0) 0) st t
+  untaken : {top : ℕ} → ((t : ℕ) → top ≡ t + 1 → t < length st → ⊥) → Takes d st top None d st top
 
 -- the nodes below n, the first on top; i of them are written
 unfoldable pub count_down : (n : ℕ) (st : List ℕ) (i : ℕ) → List ℕ

@@ -3,7 +3,7 @@
 
 ghost use Rattle.std.specs.Prelude.{◌≡◌, ◌≤◌, ◌<◌, length, get_or};
 ghost use Rattle.truth.specs.Truth.{Says, All};
-ghost use Rattle.worklist.specs.Worklist.{Linkable, lists, link_to, Links, fresh, Put, count_down, Fills};
+ghost use Rattle.worklist.specs.Worklist.{Linkable, lists, link_to, Links, holds, fresh, Put, Takes, count_down, Fills};
 
 // The largest number that a place of a list or of the stack holds.
 pub const LARGEST: usize = 65535;
@@ -11,89 +11,107 @@ pub const LARGEST: usize = 65535;
 // The mark of a node that is on the stack.
 pub const MARKED: u8 = 1;
 
-// The loop has no early end, so that it is compiled to steps of several places.
-fn all_below(list: &[u16], n: usize) -> bool
+// Whether all numbers of a list are below n. The loop has no early end, so that it is compiled to steps of several places.
+pub fn all_below(list: &[u16], n: usize) -> bool
     ensures { Says (All (λ i. get_or list.now i 0 < n) (length list.now)) result }
 {
+    if LARGEST < n {
+        return true;
+    }
+    let bound = n as u16;
     let mut good = true;
-    let mut i = 0;
-    while i < list.len() {
-        good = good & ((list[i] as usize) < n);
-        i += 1;
+    for &number in list {
+        good &= number < bound;
     }
     good
 }
 
-// By the lengths of the two slices of lists.
-fn can_link(froms: &[u16], head: usize, prev: usize) -> bool
-    ensures { Says (Linkable froms.now head prev) result }
-{
-    if prev < froms.len() {
-        return false;
-    }
-    if LARGEST < froms.len() {
-        return false;
-    }
-    all_below(froms, head)
+// Lists of edges: a node's starts at `head`, and an edge's goes on at `prev`, from the last edge to the first. A place holds one more than
+// an edge's number, and 0 at the end.
+#[derive(Drop)]
+pub struct EdgeLists<'a> {
+    pub head: &'a mut [u16],
+    pub prev: &'a mut [u16],
 }
 
-fn link_all(head: &mut [u16], prev: &mut [u16], froms: &[u16])
-    requires { Linkable froms.now (length head.old) (length prev.old) }
-    ensures { lists head.new prev.new ≡ link_to froms.now (length froms.now) (lists head.old prev.old) }
-{
-    let mut e = 0;
-    while e < froms.len() {
-        let i = froms[e] as usize;
-        prev[e] = head[i];
-        head[i] = (e + 1) as u16;
-        e += 1;
+impl EdgeLists<'_> {
+    fn can_link(&self, froms: &[u16]) -> bool
+        ensures { Says (Linkable froms.now (length self.now.head.now) (length self.now.prev.now)) result }
+    {
+        let few = froms.len() <= LARGEST;
+        few && froms.len() <= self.prev.len() && all_below(froms, self.head.len())
+    }
+
+    fn link_all(&mut self, froms: &[u16])
+        requires { Linkable froms.now (length self.old.head.now) (length self.old.prev.now) }
+        ensures { lists self.new.head.now self.new.prev.now ≡ link_to froms.now (length froms.now) (lists self.old.head.now self.old.prev.now) }
+    {
+        for (e, &from) in froms.iter().enumerate() {
+            let i = from as usize;
+            self.prev[e] = self.head[i];
+            self.head[i] = (e + 1) as u16;
+        }
+    }
+
+    // The edges that leave each node. Whether they were stored: nothing is where the slices have no room for them.
+    pub fn link(&mut self, froms: &[u16]) -> bool
+        ensures { Links froms.now self.old.head.now self.old.prev.now result (lists self.new.head.now self.new.prev.now) }
+    {
+        let can = self.can_link(froms);
+        if can {
+            self.link_all(froms);
+        }
+        can
     }
 }
 
-// The edges that leave each node, as lists that start at head and go on by prev, from the last to the first: one more than an edge's
-// number, and 0 at the end. Whether they were stored: nothing is where the slices have no room for them.
-pub fn link(head: &mut [u16], prev: &mut [u16], froms: &[u16]) -> bool
-    ensures { Links froms.now head.old prev.old result (lists head.new prev.new) }
-{
-    if !can_link(froms, head.len(), prev.len()) {
-        return false;
-    }
-    link_all(head, prev, froms);
-    true
+// The nodes that a walk still has to take up: a stack, in use below `top`, and a mark for each node that is on it.
+#[derive(Drop)]
+pub struct Pending<'a> {
+    pub marks: &'a mut [u8],
+    pub stack: &'a mut [u16],
+    pub top: usize,
 }
 
-// Node b goes on the stack where it is wanted there, is not there, and has a mark and a place. The stack's new height.
-pub fn put(marks: &mut [u8], stack: &mut [u16], b: usize, wanted: bool, top: usize) -> usize
-    ensures { Put marks.old stack.old top b (fresh marks.old stack.old top b wanted) marks.new stack.new result }
-{
-    if !wanted {
-        return top;
+impl Pending<'_> {
+    // Whether node b has a mark, and there is a place that holds its number.
+    fn holds(&self, b: usize) -> bool
+        ensures { result ≡ holds self.now.marks.now self.now.stack.now self.now.top b }
+    {
+        self.top < self.stack.len() && b < self.marks.len() && b <= LARGEST
     }
-    if stack.len() <= top {
-        return top;
+
+    // Node b goes on the stack where it is wanted there, is not there, and has a mark and a place.
+    pub fn put(&mut self, b: usize, wanted: bool)
+        ensures { Put self.old.marks.now self.old.stack.now self.old.top b (fresh self.old.marks.now self.old.stack.now self.old.top b wanted) self.new.marks.now self.new.stack.now self.new.top }
+    {
+        if wanted && self.holds(b) && self.marks[b] == 0 {
+            self.marks[b] = MARKED;
+            self.stack[self.top] = b as u16;
+            self.top += 1;
+        }
     }
-    if marks.len() <= b {
-        return top;
+
+    // Takes the node on top, and its mark: none where the stack is empty, or ends below its top.
+    pub fn take(&mut self) -> Option<usize>
+        ensures { Takes self.old.marks.now self.old.stack.now self.old.top result self.new.marks.now self.new.stack.now self.new.top }
+    {
+        let top = self.top.checked_sub(1)?;
+        let node = *self.stack.get(top)? as usize;
+        if node < self.marks.len() {
+            self.marks[node] = 0;
+        }
+        self.top = top;
+        Some(node)
     }
-    if LARGEST < b {
-        return top;
-    }
-    if marks[b] != 0 {
-        return top;
-    }
-    marks[b] = MARKED;
-    stack[top] = b as u16;
-    top + 1
 }
 
 fn count_down(stack: &mut [u16], n: usize)
     requires { (n ≤ length stack.old) × (n ≤ 65535) }
     ensures { stack.new ≡ count_down n stack.old n }
 {
-    let mut i = 0;
-    while i < n {
+    for i in 0..n {
         stack[i] = (n - 1 - i) as u16;
-        i += 1;
     }
 }
 
@@ -102,11 +120,7 @@ fn count_down(stack: &mut [u16], n: usize)
 pub fn fill(stack: &mut [u16], n: usize)
     ensures { Fills n stack.old stack.new }
 {
-    if stack.len() < n {
-        return;
+    if n <= stack.len() && n <= LARGEST {
+        count_down(stack, n);
     }
-    if LARGEST < n {
-        return;
-    }
-    count_down(stack, n);
 }

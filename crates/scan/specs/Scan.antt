@@ -4,14 +4,13 @@ pub mod Numbers
 pub mod Lists
 pub mod Bare
 pub mod Digits
-use Rattle.std.specs.Prelude.{ℕ, suc, ◌+◌, ◌-◌, ◌*◌, ◌^◌, List, [], ◌∷◌, Bool, true, false, cond, not, length, get_or, take, drop, eqb, ltb, leb}
+use Rattle.std.specs.Prelude.{ℕ, suc, ◌+◌, ◌-◌, ◌*◌, ◌^◌, List, [], ◌∷◌, Bool, true, false, cond, not, length, get_or, take, drop, eqb, ltb, leb, Option, Some, None, option_map, option_and_then}
 use Rattle.std.specs.Int.Bits.{bit_or}
+use Rattle.scan.specs.declared.At.{At}
 use Rattle.scan.specs.declared.Class.{Class}
 use Rattle.scan.specs.declared.Class.TheVariants.{Plain, Inside, Word}
-use Rattle.scan.specs.declared.Decimal.{Decimal}
-use Rattle.scan.specs.declared.Decimal.TheVariants.{Value, Not}
 use Rattle.scan.specs.declared.Listed.{Listed}
-use Rattle.scan.specs.declared.Listed.TheVariants.{Held, Beyond, NoList}
+use Rattle.scan.specs.declared.Listed.TheVariants.{Held, Beyond}
 
 -- ---- Bytes by their names
 
@@ -36,6 +35,10 @@ nought = 48
 abbrev pub nine : ℕ
 nine = 57
 
+-- What was read, and the position past it.
+abbrev pub read_to : {X : Type 0} → X → (next : ℕ) → At X
+read_to x next = record { value = x; next = next }
+
 -- ---- Runs and parts
 
 -- What a field without quotes may hold, what stands between quotes, and what stands between the spaces of a list.
@@ -56,21 +59,21 @@ part_of s start end = take (end - start) (drop start s)
 -- ---- Numbers
 
 -- The digits of a list, after digits that say v.
-unfoldable pub digits_from : ℕ → List ℕ → Decimal
-digits_from v [] = Value v
-digits_from v (b ∷ l) = cond (leb nought b) (cond (leb b nine) (digits_from (v * 10 + (b - nought)) l) Not) Not
+unfoldable pub digits_from : ℕ → List ℕ → Option ℕ
+digits_from v [] = Some v
+digits_from v (b ∷ l) = cond (leb nought b) (cond (leb b nine) (digits_from (v * 10 + (b - nought)) l) None) None
 
 -- A number has at most so many digits, whatever is allowed.
 abbrev pub most_digits : ℕ
 most_digits = 18
 
 -- A decimal number of at most so many digits, with no needless zeros: one that begins with 0 is 0 itself.
-unfoldable pub number_of : (most : ℕ) → List ℕ → Decimal
+unfoldable pub number_of : (most : ℕ) → List ℕ → Option ℕ
 number_of most l =
-    cond (eqb (length l) 0) Not
-    (cond (ltb most (length l)) Not
-    (cond (ltb most_digits (length l)) Not
-    (cond (eqb (get_or l 0 0) nought) (cond (eqb (length l) 1) (Value 0) Not) (digits_from 0 l))))
+    cond (eqb (length l) 0) None
+    (cond (ltb most (length l)) None
+    (cond (ltb most_digits (length l)) None
+    (cond (eqb (get_or l 0 0) nought) (cond (eqb (length l) 1) (Some 0) None) (digits_from 0 l))))
 
 -- ---- Lists
 
@@ -83,27 +86,19 @@ unfoldable pub words : List ℕ → List (List ℕ)
 words [] = [] ∷ []
 words (b ∷ l) = cond (eqb b space) ([] ∷ words l) (onto b (words l))
 
--- A set of numbers as the number with those bits, of any size; or no such set.
-pub data Members : Type 0 where
-  members : ℕ → Members
-  none : Members
-
--- A number goes on, and what is none ends it.
-abbrev pub on_number : Decimal → (ℕ → Members) → Members
-on_number (Value v) f = f v
-on_number Not f = none
-
--- The numbers that words name, strictly ascending and none below low, joined to the set x.
-unfoldable pub ascending : (most low x : ℕ) → List (List ℕ) → Members
-ascending most low x [] = members x
-ascending most low x (w ∷ ws) = on_number (number_of most w) (λ v. cond (ltb v low) none (ascending most (v + 1) (bit_or x (2 ^ v)) ws))
+-- The numbers that words name, strictly ascending and none below low, joined to the set x: a set is the number with those bits, of any size.
+unfoldable pub ascending : (most low x : ℕ) → List (List ℕ) → Option ℕ
+ascending most low x [] = Some x
+ascending most low x (w ∷ ws) = option_and_then (λ v. cond (ltb v low) None (ascending most (v + 1) (bit_or x (2 ^ v)) ws)) (number_of most w)
 
 -- Strictly ascending numbers, one space between; an empty list names no number.
-unfoldable pub members_of : (most : ℕ) → List ℕ → Members
-members_of most [] = members 0
+unfoldable pub members_of : (most : ℕ) → List ℕ → Option ℕ
+members_of most [] = Some 0
 members_of most (b ∷ l) = ascending most 0 0 (words (b ∷ l))
 
 -- A set as 64 bits, where it has no member at 64 or above.
-abbrev pub held_of : Members → Listed
-held_of (members x) = cond (ltb x (2 ^ 64)) (Held x) Beyond
-held_of none = NoList
+abbrev pub listed : ℕ → Listed
+listed x = cond (ltb x (2 ^ 64)) (Held x) Beyond
+
+abbrev pub held_of : Option ℕ → Option Listed
+held_of = option_map listed

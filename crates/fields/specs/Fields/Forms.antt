@@ -1,40 +1,39 @@
 -- What a field of each form says, and how a field goes on in its row.
-use Rattle.std.specs.Prelude.{ℕ, ◌<◌, ◌≡◌, List, length, get_or, eqb}
+use Rattle.std.specs.Prelude.{ℕ, ◌<◌, ◌≡◌, List, length, get_or, eqb, Option, Some, None, option_map, option_and_then}
 use Rattle.std.proofs.Math.Path.{refl, ap, sym}
 use Rattle.std.proofs.Common.{◌∙◌, arith}
 use borrow.Author.Tests.{eq-eqb, ne_eqb}
+use Rattle.std.proofs.lemmas.Option.{none-some, same_Some}
 use Rattle.truth.specs.Truth.Bools.{by_split}
-use Rattle.scan.specs.Scan.{part_of, number_of}
-use Rattle.lex.specs.Lex.{comma_at, last_at}
+use Rattle.scan.specs.Scan.{part_of, number_of, read_to}
 use Rattle.scan.specs.Scan.Numbers.{number_small}
-use Rattle.scan.specs.declared.Decimal.{Decimal}
-use Rattle.scan.specs.declared.Decimal.TheVariants.{Value, Not}
-use Rattle.lex.specs.declared.Piece.{Piece}
-use Rattle.lex.specs.declared.Piece.TheVariants.{Part, NoPart}
+use Rattle.scan.specs.declared.At.{At}
+use Rattle.lex.specs.declared.Part.{Part}
+use Rattle.lex.specs.declared.Mark.{Mark}
+use Rattle.lex.specs.Lex.{before_at}
 use Rattle.fields.specs.declared.Form.{Form}
 use Rattle.fields.specs.declared.Form.TheVariants.{Tag, Number, Own, Kind, Check, Marks, Way, Empty}
-use Rattle.fields.specs.declared.Found.TheVariants.{At, Wrong}
-use Rattle.fields.specs.Fields.{letter_of, empty_of, says, found, said_by, form_at, end_at}
+use Rattle.fields.specs.Fields.{letter_of, empty_of, says, said_by, said_at}
 
 module _ (l : List ℕ) where
-  pub tag_yes : (b : ℕ) → letter_of l ≡ b → says (Tag b) l ≡ Value 0
+  pub tag_yes : (b : ℕ) → letter_of l ≡ b → says (Tag b) l ≡ Some 0
   unfolding says
   tag_yes b e = simp (eq-eqb _ _ e)
 
-  pub tag_no : (b : ℕ) → (letter_of l ≡ b → ⊥) → says (Tag b) l ≡ Not
+  pub tag_no : (b : ℕ) → (letter_of l ≡ b → ⊥) → says (Tag b) l ≡ None
   unfolding says
   tag_no b e = simp (ne_eqb _ _ e)
 
   module _ (i : ℕ) where
-    pub own_not : number_of 4 l ≡ Not → says (Own i) l ≡ Not
+    pub own_not : number_of 4 l ≡ None → says (Own i) l ≡ None
     unfolding says
     own_not e = simp e
 
-    pub own_yes : {v : ℕ} → number_of 4 l ≡ Value v → v ≡ i → says (Own i) l ≡ Value v
+    pub own_yes : {v : ℕ} → number_of 4 l ≡ Some v → v ≡ i → says (Own i) l ≡ Some v
     unfolding says
     own_yes e f = simp (e, eq-eqb _ _ f)
 
-    pub own_other : {v : ℕ} → number_of 4 l ≡ Value v → (v ≡ i → ⊥) → says (Own i) l ≡ Not
+    pub own_other : {v : ℕ} → number_of 4 l ≡ Some v → (v ≡ i → ⊥) → says (Own i) l ≡ None
     unfolding says
     own_other e f = simp (e, ne_eqb _ _ f)
 
@@ -56,71 +55,71 @@ module _ (l : List ℕ) where
     check_none e = simp (ne_eqb _ _ e)
 
   module _ (b : ℕ) (e : b ≡ letter_of l) where
-    pub kind_call : b ≡ 67 → says Kind l ≡ Value 0
+    pub kind_call : b ≡ 67 → says Kind l ≡ Some 0
     unfolding says
     kind_call f = simp (sym e ∙ f)
 
-    pub kind_return : b ≡ 82 → says Kind l ≡ Value 1
+    pub kind_return : b ≡ 82 → says Kind l ≡ Some 1
     unfolding says
     kind_return f = simp (sym e ∙ f)
 
-    pub kind_check : b ≡ 75 → says Kind l ≡ Value 2
+    pub kind_check : b ≡ 75 → says Kind l ≡ Some 2
     unfolding says
     kind_check f = simp (sym e ∙ f)
 
-    pub kind_none : (b ≡ 67 → ⊥) → (b ≡ 82 → ⊥) → (b ≡ 75 → ⊥) → says Kind l ≡ Not
+    pub kind_none : (b ≡ 67 → ⊥) → (b ≡ 82 → ⊥) → (b ≡ 75 → ⊥) → says Kind l ≡ None
     unfolding says
     kind_none f g h = rw (← e) (simp (ne_eqb _ _ f, ne_eqb _ _ g, ne_eqb _ _ h))
 
-    pub way_call : b ≡ 67 → says Way l ≡ Value 0
+    pub way_call : b ≡ 67 → says Way l ≡ Some 0
     unfolding says
     way_call f = simp (sym e ∙ f)
 
-    pub way_transfer : b ≡ 84 → says Way l ≡ Value 1
+    pub way_transfer : b ≡ 84 → says Way l ≡ Some 1
     unfolding says
     way_transfer f = simp (sym e ∙ f)
 
-    pub way_none : (b ≡ 67 → ⊥) → (b ≡ 84 → ⊥) → says Way l ≡ Not
+    pub way_none : (b ≡ 67 → ⊥) → (b ≡ 84 → ⊥) → says Way l ≡ None
     unfolding says
     way_none f g = rw (← e) (simp (ne_eqb _ _ f, ne_eqb _ _ g))
 
-  pub marks_empty : length l ≡ 0 → says Marks l ≡ Value 0
+  pub marks_empty : length l ≡ 0 → says Marks l ≡ Some 0
   unfolding says
   marks_empty h = simp (eq-eqb _ _ h)
 
   module _ (d : length l ≡ 0 → ⊥) (b : ℕ) (e : b ≡ letter_of l) where
-    pub marks_p : b ≡ 80 → says Marks l ≡ Value 1
+    pub marks_p : b ≡ 80 → says Marks l ≡ Some 1
     unfolding says
     marks_p f = simp (ne_eqb _ _ d, sym e ∙ f)
 
-    pub marks_e : b ≡ 69 → says Marks l ≡ Value 2
+    pub marks_e : b ≡ 69 → says Marks l ≡ Some 2
     unfolding says
     marks_e f = simp (ne_eqb _ _ d, sym e ∙ f)
 
     module _ (p : b ≡ 80 → ⊥) (q : b ≡ 69 → ⊥) where
-      pub marks_long : (length l ≡ 2 → ⊥) → says Marks l ≡ Not
+      pub marks_long : (length l ≡ 2 → ⊥) → says Marks l ≡ None
       unfolding says
       marks_long f = rw (← e) (simp (ne_eqb _ _ d, ne_eqb _ _ p, ne_eqb _ _ q, ne_eqb _ _ f))
 
       module _ (t : length l ≡ 2) where
-        pub marks_first : (get_or l 0 0 ≡ 80 → ⊥) → says Marks l ≡ Not
+        pub marks_first : (get_or l 0 0 ≡ 80 → ⊥) → says Marks l ≡ None
         unfolding says
         marks_first f = rw (← e) (simp (ne_eqb _ _ d, ne_eqb _ _ p, ne_eqb _ _ q, eq-eqb _ _ t, ne_eqb _ _ f))
 
-        pub marks_second : get_or l 0 0 ≡ 80 → (get_or l 1 0 ≡ 69 → ⊥) → says Marks l ≡ Not
+        pub marks_second : get_or l 0 0 ≡ 80 → (get_or l 1 0 ≡ 69 → ⊥) → says Marks l ≡ None
         unfolding says
         marks_second f g = rw (← e) (simp (ne_eqb _ _ d, ne_eqb _ _ p, ne_eqb _ _ q, eq-eqb _ _ t, eq-eqb _ _ f, ne_eqb _ _ g))
 
-        pub marks_both : get_or l 0 0 ≡ 80 → get_or l 1 0 ≡ 69 → says Marks l ≡ Value 3
+        pub marks_both : get_or l 0 0 ≡ 80 → get_or l 1 0 ≡ 69 → says Marks l ≡ Some 3
         unfolding says
         marks_both f g = rw (← e) (simp (ne_eqb _ _ d, ne_eqb _ _ p, ne_eqb _ _ q, eq-eqb _ _ t, eq-eqb _ _ f, eq-eqb _ _ g))
 
 -- ---- how large a number a form gives
 
-never : {P : Type 0} {v : ℕ} → Not ≡ Value v → P
+never : {P : Type 0} {v : ℕ} → None ≡ Some v → P
 never e = let z : ◌≡◌ {A = ℕ} 0 1 = cc in absurd (omega arith)
 
-is : {u v : ℕ} → Value u ≡ Value v → u ≡ v
+is : {u v : ℕ} → Some u ≡ Some v → u ≡ v
 is e = cc
 
 -- The bound that a form keeps.
@@ -131,10 +130,10 @@ pub data Below : Form → ℕ → Type 0 where
   marks : Below Marks 4
   way : Below Way 2
 
-empty_small : (l : List ℕ) {v : ℕ} → empty_of l ≡ Value v → v < 10000
+empty_small : (l : List ℕ) {v : ℕ} → empty_of l ≡ Some v → v < 10000
 empty_small l e = by_split (eqb (length l) 0) (λ t. let z = is (simp t at e) in omega (arith, z)) (λ t. never (simp t at e))
 
-said_below : {form : Form} {most : ℕ} → Below form most → (l : List ℕ) {v : ℕ} → says form l ≡ Value v → v < most
+said_below : {form : Form} {most : ℕ} → Below form most → (l : List ℕ) {v : ℕ} → says form l ≡ Some v → v < most
 unfolding says
 said_below number l e = number_small 4 l _ e
 said_below (check {kind}) l e = by_split (eqb kind 2) (λ t. number_small 4 l _ (simp t at e)) (λ t. empty_small l (simp t at e))
@@ -157,26 +156,14 @@ said_below way l e =
 
 -- ---- a field in its row
 
-module _ (form : Form) (s : List ℕ) (at : ℕ) where
-  pub form_said : {x : Piece} → x ≡ comma_at s at → said_by form s x ≡ form_at form s at
-  unfolding form_at
-  form_said e = ap (said_by form s) e
-
-  pub end_said : {x : Piece} → x ≡ last_at s at → said_by form s x ≡ end_at form s at
-  unfolding end_at
-  end_said e = ap (said_by form s) e
-
-wrong_not : {P : Type 0} {v n : ℕ} → Wrong ≡ At v n → P
-wrong_not e = let z : ◌≡◌ {A = ℕ} 0 1 = cc in absurd (omega arith)
-
-pub form_below : {form : Form} {most : ℕ} → Below form most → (s : List ℕ) (at : ℕ) {v n : ℕ} → form_at form s at ≡ At v n → v < most
-unfolding form_at
-form_below {form} {most} b s at {v} {n} e = by (comma_at s at) e
+pub form_below : {form : Form} {most : ℕ} → Below form most → (m : Mark) (s : List ℕ) (at : ℕ) {x : At ℕ} → said_at form m s at ≡ Some x → x.value < most
+unfolding said_at
+form_below {form} {most} b m s at {x} e = by (before_at m s at) e
   where
-    by_said : (l : List ℕ) (d : Decimal) (m : ℕ) → says form l ≡ d → found d m ≡ At v n → v < most
-    by_said l Not m p q = wrong_not q
-    by_said l (Value u) m p q = let z : u ≡ v = cc in rw (← z) (said_below b l p)
+    by_said : (l : List ℕ) (d : Option ℕ) (n : ℕ) → says form l ≡ d → option_map (λ v. read_to v n) d ≡ Some x → x.value < most
+    by_said l None n p q = absurd (none-some _ q)
+    by_said l (Some u) n p q = let z : u ≡ x.value = ap (λ (y : At ℕ). y.value) (same_Some _ _ q) in rw (← z) (said_below b l p)
 
-    by : (x : Piece) → said_by form s x ≡ At v n → v < most
-    by NoPart q = wrong_not q
-    by (Part i j m) q = by_said (part_of s i j) (says form (part_of s i j)) m refl q
+    by : (o : Option Part) → option_and_then (said_by form s) o ≡ Some x → x.value < most
+    by None q = absurd (none-some _ q)
+    by (Some y) q = by_said (part_of s y.start y.end) (says form (part_of s y.start y.end)) y.next refl q

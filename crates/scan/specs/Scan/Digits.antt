@@ -1,5 +1,5 @@
 -- Digits met one by one: the number that they say, and a list of such numbers.
-use Rattle.std.specs.Prelude.{ℕ, ◌+◌, ◌*◌, ◌^◌, ◌≤◌, ◌<◌, ◌≡◌, refl, length, get_or, eqb}
+use Rattle.std.specs.Prelude.{ℕ, ◌+◌, ◌*◌, ◌^◌, ◌≤◌, ◌<◌, ◌≡◌, refl, length, get_or, eqb, Some}
 use Rattle.std.proofs.Math.Path.{ap}
 use Rattle.std.proofs.Common.{sym, ◌∙◌, arith}
 use mathlib.Core.List.{List, [], ◌∷◌, ◌++◌, append_assoc}
@@ -7,8 +7,7 @@ use Rattle.std.proofs.Math.ListN.{length-append}
 use Rattle.std.specs.Int.Bits.{bit_or}
 use borrow.Author.Tests.{le-leb, le-ltb, eqb-true, eqb-false, ne_eqb}
 use Rattle.truth.specs.Truth.Bools.{by_split}
-use Rattle.scan.specs.declared.Decimal.TheVariants.{Value}
-use Rattle.scan.specs.Scan.{digits_from, number_of, words, members, ascending, members_of}
+use Rattle.scan.specs.Scan.{digits_from, number_of, words, ascending, members_of}
 use Rattle.scan.specs.Scan.Numbers.{number_zero, number_digits}
 use Rattle.scan.specs.Scan.Lists.{list_some}
 use Rattle.scan.specs.Scan.Bare.{Bare, none, byte, calm_above, calm_space, bare_then}
@@ -31,15 +30,15 @@ digits_on v d l h =
     let hi : d + 48 ≤ 57 = omega arith in
     simp (le-leb _ _ lo, le-leb _ _ hi) (ap (λ (x : ℕ). digits_from (v * 10 + x) l) (omega arith))
 
-digits_done : (u v : ℕ) → u ≡ v → digits_from u [] ≡ Value v
+digits_done : (u v : ℕ) → u ≡ v → digits_from u [] ≡ Some v
 unfolding digits_from
-digits_done u v e = ap Value e
+digits_done u v e = ap Some e
 
 module _ {a : ℕ} (h : a ≤ 9) where
-  pub number_1 : number_of 4 ((a + 48) ∷ []) ≡ Value a
+  pub number_1 : number_of 4 ((a + 48) ∷ []) ≡ Some a
   number_1 =
       by_split (eqb a 0)
-      (λ t. let z = eqb-true a 0 t in number_zero 4 ((a + 48) ∷ []) (λ e. omega (arith, e)) (omega arith) (omega arith) (omega (arith, z)) refl ∙ ap Value (sym z))
+      (λ t. let z = eqb-true a 0 t in number_zero 4 ((a + 48) ∷ []) (λ e. omega (arith, e)) (omega arith) (omega arith) (omega (arith, z)) refl ∙ ap Some (sym z))
       (λ t. number_digits 4 ((a + 48) ∷ []) (λ e. omega (arith, e)) (omega arith) (omega arith) (λ e. eqb-false a 0 t (omega (arith, e))) ∙ digits_on 0 a [] h ∙ digits_done _ _ (omega arith))
 
   module _ (p : 0 < a) where
@@ -49,14 +48,14 @@ module _ {a : ℕ} (h : a ≤ 9) where
         ∙ digits_on 0 a l h ∙ ap (λ (x : ℕ). digits_from x l) (omega arith)
 
     module _ {b : ℕ} (i : b ≤ 9) where
-      pub number_2 : number_of 4 ((a + 48) ∷ (b + 48) ∷ []) ≡ Value (a * 10 + b)
+      pub number_2 : number_of 4 ((a + 48) ∷ (b + 48) ∷ []) ≡ Some (a * 10 + b)
       number_2 = from_digits _ (omega arith) ∙ digits_on a b _ i ∙ digits_done _ _ refl
 
       module _ {c : ℕ} (j : c ≤ 9) where
-        pub number_3 : number_of 4 ((a + 48) ∷ (b + 48) ∷ (c + 48) ∷ []) ≡ Value (a * 100 + b * 10 + c)
+        pub number_3 : number_of 4 ((a + 48) ∷ (b + 48) ∷ (c + 48) ∷ []) ≡ Some (a * 100 + b * 10 + c)
         number_3 = from_digits _ (omega arith) ∙ digits_on a b _ i ∙ digits_on (a * 10 + b) c _ j ∙ digits_done _ _ (omega arith)
 
-        pub number_4 : {d : ℕ} → d ≤ 9 → number_of 4 ((a + 48) ∷ (b + 48) ∷ (c + 48) ∷ (d + 48) ∷ []) ≡ Value (a * 1000 + b * 100 + c * 10 + d)
+        pub number_4 : {d : ℕ} → d ≤ 9 → number_of 4 ((a + 48) ∷ (b + 48) ∷ (c + 48) ∷ (d + 48) ∷ []) ≡ Some (a * 1000 + b * 100 + c * 10 + d)
         number_4 {d} k = from_digits _ (omega arith) ∙ digits_on a b _ i ∙ digits_on (a * 10 + b) c _ j ∙ digits_on ((a * 10 + b) * 10 + c) d _ k ∙ digits_done _ _ (omega arith)
 
 -- ---- lists
@@ -80,7 +79,7 @@ pub record Listing (s : List ℕ) (at i low set : ℕ) : Type 0 where
 pub listing_start : {s : List ℕ} {at : ℕ} → Listing s at at 0 0
 listing_start = record { bytes = []; stand = none; goes = λ l. refl }
 
-module _ {s : List ℕ} {at i low set : ℕ} (g : Listing s at i low set) {e v : ℕ} {w : List ℕ} (r : Digital s i w e) (n : number_of 4 w ≡ Value v) (h : low ≤ v) where
+module _ {s : List ℕ} {at i low set : ℕ} (g : Listing s at i low set) {e v : ℕ} {w : List ℕ} (r : Digital s i w e) (n : number_of 4 w ≡ Some v) (h : low ≤ v) where
   pub listing_next : {p : ℕ} → p ≡ e + 1 → get_or s e 0 ≡ 32 → Listing s at p (v + 1) (bit_or set (2 ^ v))
   unfolding ascending
   listing_next {p} j q = record {
@@ -91,7 +90,7 @@ module _ {s : List ℕ} {at i low set : ℕ} (g : Listing s at i low set) {e v :
         ∙ g.goes (w ++ 32 ∷ l) ∙ ap (ascending 4 low set) (words_then l r) ∙ simp (n, le-ltb _ _ h);
   }
 
-  pub listing_last : (0 < length w) → (members_of 4 (g.bytes ++ w) ≡ members (bit_or set (2 ^ v)))
+  pub listing_last : (0 < length w) → (members_of 4 (g.bytes ++ w) ≡ Some (bit_or set (2 ^ v)))
   unfolding ascending
   listing_last k =
       list_some 4 (g.bytes ++ w) (λ z. omega (arith, z, length-append g.bytes w))

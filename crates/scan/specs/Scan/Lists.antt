@@ -1,5 +1,5 @@
 -- How a list goes on from one word to the next, and its set as 64 bits.
-use Rattle.std.specs.Prelude.{ℕ, ◌+◌, ◌-◌, ◌*◌, ◌^◌, ◌%◌, ◌≤◌, ◌<◌, ◌≡◌, refl, cond, List, [], ◌∷◌, length, take, drop, eqb, ltb}
+use Rattle.std.specs.Prelude.{ℕ, ◌+◌, ◌-◌, ◌*◌, ◌^◌, ◌%◌, ◌≤◌, ◌<◌, ◌≡◌, refl, cond, List, [], ◌∷◌, length, take, drop, eqb, ltb, Option, Some, None}
 use Rattle.std.proofs.Common.{ap, sym, ◌∙◌, le_trans, arith, drop-drop, pow_mono}
 use Rattle.std.proofs.Math.Numerals.{add-one}
 use Rattle.std.proofs.Math.ListN.{drop_of_length-le}
@@ -11,16 +11,14 @@ use borrow.Author.Tests.{lt-ltb, le-ltb, ltb-true, ltb-false}
 use Rattle.truth.specs.Truth.Bools.{by_split}
 use Rattle.truth.specs.Truth.Kit.{shl_one}
 use Rattle.scan.specs.declared.Class.TheVariants.{Word}
-use Rattle.scan.specs.declared.Decimal.TheVariants.{Value, Not}
 use Rattle.scan.specs.declared.Listed.{Listed}
-use Rattle.scan.specs.declared.Listed.TheVariants.{Held, Beyond, NoList}
-use Rattle.scan.specs.Scan.{run, part_of, number_of, words, members, none, ascending, members_of, held_of}
+use Rattle.scan.specs.declared.Listed.TheVariants.{Held, Beyond}
+use Rattle.scan.specs.Scan.{run, part_of, number_of, words, ascending, members_of, listed, held_of}
 
 -- a set as 64 bits with one member more
 abbrev pub with_member : Listed → ℕ → Listed
 with_member (Held bits) v = cond (ltb v 64) (Held (bit_or bits (2 ^ v))) Beyond
 with_member Beyond v = Beyond
-with_member NoList v = NoList
 
 or_ge_l : (a b : ℕ) → a ≤ bit_or a b
 or_ge_l a b = omega (arith, or_add_and a b, and_le_r a b)
@@ -29,7 +27,7 @@ or_ge_r : (a b : ℕ) → b ≤ bit_or a b
 or_ge_r a b = omega (arith, or_add_and a b, and_le_l a b)
 
 -- the 64 bits of a set with one member more
-pub held_with : (x v : ℕ) → with_member (held_of (members x)) v ≡ held_of (members (bit_or x (2 ^ v)))
+pub held_with : (x v : ℕ) → with_member (listed x) v ≡ listed (bit_or x (2 ^ v))
 held_with x v =
     by_split (ltb x (2 ^ 64))
     (λ a. by_split (ltb v 64)
@@ -56,16 +54,16 @@ module _ (most : ℕ) (s : List ℕ) (at e low x : ℕ) (p : e ≡ at + run Word
       let q : e - at ≡ run Word (drop at s) = omega arith in
       words_split (drop at s) ∙ rw (drop-drop, q, ← p)
 
-  pub list_not : number_of most (part_of s at e) ≡ Not → ascending most low x (words (drop at s)) ≡ none
+  pub list_not : number_of most (part_of s at e) ≡ None → ascending most low x (words (drop at s)) ≡ None
   unfolding ascending
   list_not n = rw words_at (simp n)
 
-  module _ (v : ℕ) (n : number_of most (part_of s at e) ≡ Value v) where
-    pub list_low : v < low → ascending most low x (words (drop at s)) ≡ none
+  module _ (v : ℕ) (n : number_of most (part_of s at e) ≡ Some v) where
+    pub list_low : v < low → ascending most low x (words (drop at s)) ≡ None
     unfolding ascending
     list_low h = rw words_at (simp (n, lt-ltb _ _ h))
 
-    pub list_last : low ≤ v → length s ≤ e → ascending most low x (words (drop at s)) ≡ members (bit_or x (2 ^ v))
+    pub list_last : low ≤ v → length s ≤ e → ascending most low x (words (drop at s)) ≡ Some (bit_or x (2 ^ v))
     unfolding ascending
     list_last h k = rw (words_at, drop_of_length-le s k) (simp (n, le-ltb _ _ h))
 
@@ -73,7 +71,7 @@ module _ (most : ℕ) (s : List ℕ) (at e low x : ℕ) (p : e ≡ at + run Word
     unfolding ascending
     list_next h k = rw (words_at, add-one e, drop-cons s e 0) (simp (n, le-ltb _ _ h))
 
-pub list_none : (most : ℕ) (l : List ℕ) → length l ≡ 0 → members_of most l ≡ members 0
+pub list_none : (most : ℕ) (l : List ℕ) → length l ≡ 0 → members_of most l ≡ Some 0
 unfolding members_of
 list_none most [] h = refl
 list_none most (b ∷ l) h = absurd (omega arith)
@@ -86,7 +84,7 @@ list_some most (b ∷ l) h = refl
 -- A list that is read as far as a position: the set of its numbers so far, and that what is left leads to the list's own.
 pub record Going (most : ℕ) (s : List ℕ) (set : Listed) (at low : ℕ) : Type 0 where
   pub so_far : ℕ
-  pub held : set ≡ held_of (members so_far)
+  pub held : set ≡ listed so_far
   pub goes : ascending most low so_far (words (drop at s)) ≡ members_of most s
   pub inside : at ≤ length s
 
@@ -103,19 +101,19 @@ module _ {most : ℕ} {s : List ℕ} where
   going_start h = record { so_far = 0; held = refl; goes = sym (list_some most s h); inside = omega arith }
 
   module _ {set : Listed} {at low e : ℕ} (g : Going most s set at low) (p : e ≡ at + run Word (drop at s)) where
-    pub going_not : number_of most (part_of s at e) ≡ Not → held_of (members_of most s) ≡ NoList
+    pub going_not : number_of most (part_of s at e) ≡ None → held_of (members_of most s) ≡ None
     going_not n = ap held_of (sym g.goes ∙ list_not most s at e low g.so_far p n)
 
-    module _ {v : ℕ} (n : number_of most (part_of s at e) ≡ Value v) where
-      pub going_low : v < low → held_of (members_of most s) ≡ NoList
+    module _ {v : ℕ} (n : number_of most (part_of s at e) ≡ Some v) where
+      pub going_low : v < low → held_of (members_of most s) ≡ None
       going_low h = ap held_of (sym g.goes ∙ list_low most s at e low g.so_far p v n h)
 
       module _ (h : low ≤ v) where
-        with_so_far : with_member set v ≡ held_of (members (bit_or g.so_far (2 ^ v)))
+        with_so_far : with_member set v ≡ listed (bit_or g.so_far (2 ^ v))
         with_so_far = ap (λ (x : Listed). with_member x v) g.held ∙ held_with g.so_far v
 
-        pub going_last : length s ≤ e → held_of (members_of most s) ≡ with_member set v
-        going_last k = ap held_of (sym g.goes ∙ list_last most s at e low g.so_far p v n h k) ∙ sym with_so_far
+        pub going_last : length s ≤ e → held_of (members_of most s) ≡ Some (with_member set v)
+        going_last k = ap held_of (sym g.goes ∙ list_last most s at e low g.so_far p v n h k) ∙ sym (ap Some with_so_far)
 
         pub going_next : e < length s → Going most s (with_member set v) (e + 1) (v + 1)
         going_next k = record {

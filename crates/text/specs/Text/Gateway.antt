@@ -2,10 +2,10 @@
 use Rattle.std.specs.Prelude.{ℕ, ◌≡◌, refl, List, [], ◌∷◌}
 use Rattle.graph.specs.Graph.Gateway.{gateway}
 use Rattle.scan.specs.Scan.{run, digits_from, number_of, words, ascending, members_of}
-use Rattle.lex.specs.Lex.{followed, quoted_at, plain_at, field_at, comma_at, last_at}
+use Rattle.lex.specs.Lex.{followed, quoted_at, plain_at, field_at, before_at}
 use Rattle.graph.specs.declared.Node.{Node}
 use Rattle.graph.specs.declared.Edge.{Edge}
-use Rattle.fields.specs.Fields.{says, form_at, end_at}
+use Rattle.fields.specs.Fields.{says, said_at}
 use Rattle.records.specs.Records.{grants_at, three_at, header_at, lead_at, node_at, edge_at}
 use Rattle.text.specs.Text.{rows_at, text_at, graph_from}
 use Rattle.text.specs.Text as text
@@ -54,7 +54,7 @@ gateway_edges =
     record { from = 1; to = 7; way = 1 } ∷ []
 
 pub gateway_means : text_at gateway_text 0 1 ≡ text.says 2 gateway_nodes gateway_edges
-unfolding gateway_text gateway_nodes gateway_edges run followed quoted_at plain_at field_at comma_at last_at digits_from number_of words ascending members_of says form_at end_at grants_at three_at header_at lead_at node_at edge_at rows_at text_at
+unfolding gateway_text gateway_nodes gateway_edges run followed quoted_at plain_at field_at before_at digits_from number_of words ascending members_of says said_at grants_at three_at header_at lead_at node_at edge_at rows_at text_at
 gateway_means = refl
 
 pub gateway_graph : graph_from 2 gateway_nodes gateway_edges ≡ gateway

@@ -1,13 +1,10 @@
-use Rattle.truth.specs.Truth.Tests.{says_same, eq?}
-use Rattle.truth.specs.Truth.{fails}
-use native.Mathlib.Omega.{arith}
+use borrow.Author.Rules.{rules}
+use borrow.Author.Tests.{tests}
+use Rattle.truth.specs.Truth.Tests.{says_same, says_no, eq?}
 use Rattle.rules.proofs.edges_long.Goals as goal
 
-pub returns-then-froms-m : goal.returns-then-froms-m
-returns-then-froms-m c = fails (λ p. omega arith)
+pub returns-then-long-m-2 : goal.returns-then-long-m-2
+returns-then-long-m-2 c = let h = c.if-long-m-2.true in says_same (eq? _ _) (λ w. record { froms = h.0; tos = h.1; ways = w }) (λ x. x.ways)
 
-pub returns-then-tos-m : goal.returns-then-tos-m
-returns-then-tos-m c = fails (λ p. omega arith)
-
-pub returns : goal.returns
-returns c = says_same (eq? _ _) (λ e. record { froms = omega arith; tos = omega arith; ways = e }) (λ p. p.ways)
+pub returns-else-long-m-2 : goal.returns-else-long-m-2
+returns-else-long-m-2 c = says_no (search rules) (λ x. search (rules, tests))

@@ -1,19 +1,10 @@
-use Rattle.truth.specs.Truth.Tests.{says_same, eq?}
-use Rattle.truth.specs.Truth.{fails}
-use native.Mathlib.Omega.{arith}
+use borrow.Author.Rules.{rules}
+use borrow.Author.Tests.{tests}
+use Rattle.truth.specs.Truth.Tests.{says_same, says_no, eq?}
 use Rattle.rules.proofs.nodes_long.Goals as goal
 
-pub returns-then-kinds-n : goal.returns-then-kinds-n
-returns-then-kinds-n c = fails (λ p. omega arith)
+pub returns-then-long-n-4 : goal.returns-then-long-n-4
+returns-then-long-n-4 c = let (k, l, p, e) = c.if-long-n-4.true in says_same (eq? _ _) (λ g. record { kinds = k; checks = l; privileged = p; entries = e; grants = g }) (λ x. x.grants)
 
-pub returns-then-checks-n : goal.returns-then-checks-n
-returns-then-checks-n c = fails (λ p. omega arith)
-
-pub returns-then-privileged-n : goal.returns-then-privileged-n
-returns-then-privileged-n c = fails (λ p. omega arith)
-
-pub returns-then-entries-n : goal.returns-then-entries-n
-returns-then-entries-n c = fails (λ p. omega arith)
-
-pub returns : goal.returns
-returns c = says_same (eq? _ _) (λ e. record { kinds = omega arith; checks = omega arith; privileged = omega arith; entries = omega arith; grants = e }) (λ p. p.grants)
+pub returns-else-long-n-4 : goal.returns-else-long-n-4
+returns-else-long-n-4 c = says_no (search rules) (λ x. search (rules, tests))

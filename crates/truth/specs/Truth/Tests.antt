@@ -40,6 +40,9 @@ pub says_by : {P : Type 0} (b : Bool) → (b ≡ true → P) → (b ≡ false �
 says_by true f g = holds (f refl)
 says_by false f g = fails (g refl)
 
+pub says_no : {P : Type 0} {b : Bool} → b ≡ false → (P → ⊥) → Says P b
+says_no {b} e d = says_by b (λ t. clash t e) (λ _. d)
+
 pub le? : (a b : ℕ) → Says (a ≤ b) (leb a b)
 le? a b = says_by (leb a b) (leb-true a b) (λ e h. let z = leb-false a b e in omega arith)
 

@@ -1,15 +1,11 @@
 -- How long slices and a text may be, and how a text ends. Definitions alone.
 pub mod Laws
-use Rattle.std.specs.Prelude.{ℕ, ◌≤◌, ◌<◌, cond, ltb}
+use Rattle.std.specs.Prelude.{ℕ, ◌≤◌, ◌<◌, cond, ltb, Result, Ok, Err}
 use Rattle.graph.specs.Graph.{PerNode, PerEdge, NodesLong, EdgesLong}
 use Rattle.graph.specs.declared.Size.{Size}
+use Rattle.graph.specs.declared.Refusal.{Refusal}
 use Rattle.graph.specs.declared.Refusal.TheVariants as why
 use Rattle.graph.specs.Refusals.{Judged}
-use Rattle.std.specs.Prelude.{Ok, Err}
-use Rattle.extent.specs.declared.Ran.{Ran}
-use Rattle.extent.specs.declared.Ran.TheVariants.{Past, Stop}
-use Rattle.extent.specs.declared.Parsed.{Parsed}
-use Rattle.extent.specs.declared.Parsed.TheVariants.{Counted, Wrong}
 
 -- 1,024 places for what is a node's, 4,096 for what is an edge's: room for every graph.
 abbrev pub most_nodes : ℕ
@@ -31,10 +27,18 @@ pub data SizesSo (x : PerNode ℕ) (y : PerEdge ℕ) (text : ℕ) : Judged → T
   long : Ample x y → most_bytes < text → SizesSo x y text (Err why.TooLong)
   fit : Ample x y → text ≤ most_bytes → SizesSo x y text (Ok tt)
 
-abbrev pub on_ran : {Y : Type 0} → Ran → (ℕ → Y) → (ℕ → Y) → Y
-on_ran (Stop row) f g = f row
-on_ran (Past q) f g = g q
+-- Where rows end: at the position past the last of them, or with the refusal of the first that is wrong. What a text says of its counts, or the refusal
+-- of its first wrong, missing or extra row.
+abbrev pub Ran : Type 0
+Ran = Result ℕ Refusal
 
--- A wrong row, by its number; or, where the text goes on past the last row, the extra row's; or else the counts.
+abbrev pub Parsed : Type 0
+Parsed = Result Size Refusal
+
+abbrev pub on_ran : {Y : Type 0} → Ran → (Refusal → Y) → (ℕ → Y) → Y
+on_ran (Err r) f g = f r
+on_ran (Ok q) f g = g q
+
+-- A wrong row's refusal; or, where the text goes on past the last row, the extra row's; or else the counts.
 unfoldable pub end_of : Ran → (len extra : ℕ) → Size → Parsed
-end_of ran len extra c = on_ran ran (λ row. Wrong row) (λ q. cond (ltb q len) (Wrong extra) (Counted c))
+end_of ran len extra c = on_ran ran Err (λ q. cond (ltb q len) (Err (why.Row extra)) (Ok c))

@@ -3,8 +3,11 @@ pub mod Copies
 pub mod Laws
 use Rattle.std.specs.Prelude.{ℕ, ◌≡◌, List, Bool, ◌&&◌, length, take, eqb}
 use Rattle.std.proofs.lemmas.List.Edits.{sets}
-use Rattle.graph.specs.Graph.{Graph, PerNode, PerEdge, nodes_of, edges_of, map_node, map_edge, every_node, every_edge, NodesLong, EdgesLong}
+use Rattle.graph.specs.Graph.{Graph, PerNode, PerEdge, map_node, map_edge, every_node, every_edge, NodesLong, EdgesLong}
 use Rattle.graph.specs.Judge.{Judges}
+use Rattle.graph.specs.Lent.{nodes_lent, edges_lent, node_places, edge_places}
+use Rattle.graph.specs.declared.LentGraph.{LentGraph}
+use Rattle.graph.specs.declared.GraphPlaces.{GraphPlaces}
 use Rattle.extent.specs.Extent.{most_nodes, most_edges}
 use Rattle.graph.specs.declared.Size.{Size}
 use Rattle.graph.specs.declared.Refusal.{Refusal}
@@ -17,8 +20,12 @@ pub record Lent : Type 0 where
   pub nodes : PerNode (List ℕ)
   pub edges : PerEdge (List ℕ)
 
-abbrev pub lent_of : (kinds checks privileged entries grants froms tos ways : List ℕ) → Lent
-lent_of kinds checks privileged entries grants froms tos ways = record { nodes = nodes_of kinds checks privileged entries grants; edges = edges_of froms tos ways }
+-- What they hold, of slices to be read and of slices to be written.
+abbrev pub lists_lent : LentGraph → Lent
+lists_lent x = record { nodes = nodes_lent x.nodes; edges = edges_lent x.edges }
+
+abbrev pub places : GraphPlaces → Lent
+places x = record { nodes = node_places x.nodes; edges = edge_places x.edges }
 
 -- Room for every graph.
 pub record Room (x : Lent) : Type 0 where

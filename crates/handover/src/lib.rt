@@ -1,196 +1,95 @@
-// Hands a graph over: judges what the first places of slices hold, and copies it to the slices that a caller lends where it is accepted.
+// Hands a graph over: judges what the first places of slices hold, and copies it to the places that a caller lends where it is accepted.
 #![tactic(auto)]
 
 ghost use Rattle.std.specs.Prelude.{◌≡◌, ◌≤◌, length, take};
 ghost use Rattle.std.proofs.lemmas.List.Edits.{sets};
-ghost use Rattle.graph.specs.Graph.{nodes_of, edges_of, map_node, map_edge, NodesLong, EdgesLong, Ranges};
-ghost use Rattle.graph.specs.Judge.{Judges};
-ghost use Rattle.handover.specs.Handover.{lent_of, Room, held_graph, NodesWritten, EdgesWritten, HeldJudged, HandsOver};
+ghost use Rattle.graph.specs.Graph.{map_node, map_edge, NodesLong, EdgesLong, Ranges};
+ghost use Rattle.graph.specs.Lent.{lent, nodes_lent, edges_lent, node_places, edge_places};
+ghost use Rattle.handover.specs.Handover.{lists_lent, places, Room, held_graph, NodesWritten, EdgesWritten, HeldJudged, HandsOver};
 
-use graph;
-use graph::{Judged, Refusal, Size};
+use graph::{EdgePlaces, GraphPlaces, LentEdges, LentGraph, LentNodes, NodePlaces, Refusal, Size};
 
-fn copy_u8(to: &mut [u8], from: &[u8], n: usize)
+// Copies the first n places.
+fn copy<T: Copy>(to: &mut [T], from: &[T], n: usize)
     requires { (n ≤ length from.now) × (n ≤ length to.old) }
     ensures { to.new ≡ sets to.old 0 (take n from.now) }
 {
-    let mut i: usize = 0;
-    while i < n {
-        to[i] = from[i];
-        i += 1;
-    }
-}
-
-fn copy_u16(to: &mut [u16], from: &[u16], n: usize)
-    requires { (n ≤ length from.now) × (n ≤ length to.old) }
-    ensures { to.new ≡ sets to.old 0 (take n from.now) }
-{
-    let mut i: usize = 0;
-    while i < n {
-        to[i] = from[i];
-        i += 1;
-    }
-}
-
-fn copy_u64(to: &mut [u64], from: &[u64], n: usize)
-    requires { (n ≤ length from.now) × (n ≤ length to.old) }
-    ensures { to.new ≡ sets to.old 0 (take n from.now) }
-{
-    let mut i: usize = 0;
-    while i < n {
-        to[i] = from[i];
-        i += 1;
-    }
+    to[..n].copy_from_slice(&from[..n]);
 }
 
 // Copies what n nodes have.
-fn store_nodes(
-    kinds: &mut [u8],
-    checks: &mut [u16],
-    privileged: &mut [u8],
-    entries: &mut [u8],
-    grants: &mut [u64],
-    ks: &[u8],
-    cs: &[u16],
-    ps: &[u8],
-    es: &[u8],
-    gs: &[u64],
-    n: usize,
-)
-    requires n_bound { (n ≤ 1024) × NodesLong 1024 (nodes_of (length kinds.old) (length checks.old) (length privileged.old) (length entries.old) (length grants.old)) }
-    requires nodes_long { NodesLong 1024 (nodes_of (length ks.now) (length cs.now) (length ps.now) (length es.now) (length gs.now)) }
-    ensures { NodesWritten (nodes_of kinds.old checks.old privileged.old entries.old grants.old) (map_node (take n) (nodes_of ks.now cs.now ps.now es.now gs.now)) (nodes_of kinds.new checks.new privileged.new entries.new grants.new) }
+fn store_nodes(into: &mut NodePlaces, held: &LentNodes, n: usize)
+    requires counted { n ≤ 1024 }
+    requires room { NodesLong 1024 (map_node length (node_places into.old)) }
+    requires full { NodesLong 1024 (map_node length (nodes_lent held.now)) }
+    ensures { NodesWritten (node_places into.old) (map_node (take n) (nodes_lent held.now)) (node_places into.new) }
 {
-    copy_u8(kinds, ks, n);
-    copy_u16(checks, cs, n);
-    copy_u8(privileged, ps, n);
-    copy_u8(entries, es, n);
-    copy_u64(grants, gs, n);
+    copy(into.kinds, held.kinds, n);
+    copy(into.checks, held.checks, n);
+    copy(into.privileged, held.privileged, n);
+    copy(into.entries, held.entries, n);
+    copy(into.grants, held.grants, n);
 }
 
 // Copies what m edges have.
-fn store_edges(
-    froms: &mut [u16],
-    tos: &mut [u16],
-    ways: &mut [u8],
-    fs: &[u16],
-    ts: &[u16],
-    ws: &[u8],
-    m: usize,
-)
-    requires m_bound { (m ≤ 4096) × EdgesLong 4096 (edges_of (length froms.old) (length tos.old) (length ways.old)) }
-    requires edges_long { EdgesLong 4096 (edges_of (length fs.now) (length ts.now) (length ws.now)) }
-    ensures { EdgesWritten (edges_of froms.old tos.old ways.old) (map_edge (take m) (edges_of fs.now ts.now ws.now)) (edges_of froms.new tos.new ways.new) }
+fn store_edges(into: &mut EdgePlaces, held: &LentEdges, m: usize)
+    requires counted { m ≤ 4096 }
+    requires room { EdgesLong 4096 (map_edge length (edge_places into.old)) }
+    requires full { EdgesLong 4096 (map_edge length (edges_lent held.now)) }
+    ensures { EdgesWritten (edge_places into.old) (map_edge (take m) (edges_lent held.now)) (edge_places into.new) }
 {
-    copy_u16(froms, fs, m);
-    copy_u16(tos, ts, m);
-    copy_u8(ways, ws, m);
+    copy(into.froms, held.froms, m);
+    copy(into.tos, held.tos, m);
+    copy(into.ways, held.ways, m);
 }
 
-// Judges the graph that the first places of slices with room hold.
-fn judge(
-    size: Size,
-    ks: &[u8],
-    cs: &[u16],
-    ps: &[u8],
-    es: &[u8],
-    gs: &[u64],
-    fs: &[u16],
-    ts: &[u16],
-    ws: &[u8],
-) -> Judged
-    requires { Ranges size × Room (lent_of ks.now cs.now ps.now es.now gs.now fs.now ts.now ws.now) }
-    ensures { Judges (held_graph size (lent_of ks.now cs.now ps.now es.now gs.now fs.now ts.now ws.now)) result }
+// The graph that the first places of slices with room hold.
+fn first_places<'a>(held: &LentGraph<'a>) -> LentGraph<'a>
+    requires { Ranges held.now.size × Room (lists_lent held.now) }
+    ensures { lent result ≡ held_graph held.now.size (lists_lent held.now) }
 {
-    let n = size.n;
-    let m = size.m;
-    judge::check(
+    let LentGraph { size, nodes, edges } = *held;
+    let Size { n, m, .. } = size;
+    LentGraph {
         size,
-        &ks[0..n],
-        &cs[0..n],
-        &ps[0..n],
-        &es[0..n],
-        &gs[0..n],
-        &fs[0..m],
-        &ts[0..m],
-        &ws[0..m],
-    )
+        nodes: LentNodes {
+            kinds: &nodes.kinds[..n],
+            checks: &nodes.checks[..n],
+            privileged: &nodes.privileged[..n],
+            entries: &nodes.entries[..n],
+            grants: &nodes.grants[..n],
+        },
+        edges: LentEdges {
+            froms: &edges.froms[..m],
+            tos: &edges.tos[..m],
+            ways: &edges.ways[..m],
+        },
+    }
 }
 
-// Judges what the first places of slices hold.
-fn judge_held(
-    size: Size,
-    ks: &[u8],
-    cs: &[u16],
-    ps: &[u8],
-    es: &[u8],
-    gs: &[u64],
-    fs: &[u16],
-    ts: &[u16],
-    ws: &[u8],
-) -> Judged
-    ensures { HeldJudged size (lent_of ks.now cs.now ps.now es.now gs.now fs.now ts.now ws.now) result }
+// Judges what the first places hold.
+fn judge(held: &LentGraph) -> Result<(), Refusal>
+    ensures { HeldJudged held.now.size (lists_lent held.now) result }
 {
-    if !extent::has_room(
-        ks.len(),
-        cs.len(),
-        ps.len(),
-        es.len(),
-        gs.len(),
-        fs.len(),
-        ts.len(),
-        ws.len(),
-    ) {
-        return Judged::Refused(Refusal::Shape);
+    if !extent::has_room(held.nodes.lengths(), held.edges.lengths()) {
+        return Err(Refusal::Shape);
     }
-    if !rules::in_range(size) {
-        return Judged::Refused(Refusal::Shape);
+    if !rules::in_range(held.size) {
+        return Err(Refusal::Shape);
     }
-    judge(size, ks, cs, ps, es, gs, fs, ts, ws)
+    judge::check(&first_places(held))
 }
 
 // Hands over the graph of this size that the first places of slices with room hold: stores it in the first places of the lent ones, or refuses and
 // stores nothing.
-pub fn hand_over(
-    size: Size,
-    ks: &[u8],
-    cs: &[u16],
-    ps: &[u8],
-    es: &[u8],
-    gs: &[u64],
-    fs: &[u16],
-    ts: &[u16],
-    ws: &[u8],
-    kinds: &mut [u8],
-    checks: &mut [u16],
-    privileged: &mut [u8],
-    entries: &mut [u8],
-    grants: &mut [u64],
-    froms: &mut [u16],
-    tos: &mut [u16],
-    ways: &mut [u8],
-) -> Judged
-    ensures { HandsOver size (lent_of ks.now cs.now ps.now es.now gs.now fs.now ts.now ws.now) (lent_of kinds.old checks.old privileged.old entries.old grants.old froms.old tos.old ways.old) result (lent_of kinds.new checks.new privileged.new entries.new grants.new froms.new tos.new ways.new) }
+pub fn hand_over(held: &LentGraph, into: &mut GraphPlaces) -> Result<(), Refusal>
+    ensures { HandsOver held.now.size (lists_lent held.now) (places into.old) result (places into.new) }
 {
-    if !extent::has_room(
-        kinds.len(),
-        checks.len(),
-        privileged.len(),
-        entries.len(),
-        grants.len(),
-        froms.len(),
-        tos.len(),
-        ways.len(),
-    ) {
-        return Judged::Refused(Refusal::Shape);
+    if !extent::has_room(into.nodes.lengths(), into.edges.lengths()) {
+        return Err(Refusal::Shape);
     }
-    let judged = judge_held(size, ks, cs, ps, es, gs, fs, ts, ws);
-    if let Judged::Refused(why) = judged {
-        return Judged::Refused(why);
-    }
-    store_nodes(
-        kinds, checks, privileged, entries, grants, ks, cs, ps, es, gs, size.n,
-    );
-    store_edges(froms, tos, ways, fs, ts, ws, size.m);
-    Judged::Accepted
+    judge(held)?;
+    store_nodes(&mut into.nodes, &held.nodes, held.size.n);
+    store_edges(&mut into.edges, &held.edges, held.size.m);
+    Ok(())
 }

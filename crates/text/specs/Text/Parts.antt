@@ -34,13 +34,37 @@ module _ {X : Type 0} (row : (from i : ℕ) → Got X) where
 abbrev pub kept_row : List ℕ → (from i : ℕ) → Got Node
 kept_row s from i = on_got (node_at s from i) no (λ x p. got (kept x) p)
 
-pub record NodesRead (s : List ℕ) (from first n : ℕ) (r : Ran) (before after : PerNode (List ℕ)) : Type 0 where
-  pub answer : r ≡ end_from (kept_row s) first n from 0
-  pub so : NodesWritten before (node_columns (rows_from (kept_row s) n from 0)) after
+-- ---- rows, as they are kept
 
-pub record EdgesRead (s : List ℕ) (from first m : ℕ) (r : Ran) (before after : PerEdge (List ℕ)) : Type 0 where
-  pub answer : r ≡ end_from (edge_row s) first m from 0
-  pub so : EdgesWritten before (edge_columns (rows_from (edge_row s) m from 0)) after
+-- What places hold when a row is kept, and where the text goes on after it: nothing changes where the row is wrong.
+pub data RowKept {S : Type 0} : Got S → (before : S) → Option ℕ → S → Type 0 where
+  kept_to : {after : S} {next : ℕ} → {before : S} → RowKept (got after next) before (Some next) after
+  unkept : {before : S} → RowKept no before None before
+
+-- What places hold when so many rows are kept, and where they end.
+unfoldable pub keep_rows : {S : Type 0} (row : S → (from i : ℕ) → Got S) (first count : ℕ) → S → (from i : ℕ) → S × Ran
+keep_rows row first zero x from i = (x, Ok from)
+keep_rows row first (suc count) x from i = on_got (row x from i) (x, Err (why.Row (first + i))) (λ y p. keep_rows row first count y p (i + 1))
+
+abbrev pub RowsKept : {S : Type 0} (row : S → (from i : ℕ) → Got S) (first count from : ℕ) → S → Ran → S → Type 0
+RowsKept {S} row first count from before r after = keep_rows row first count before from 0 ≡ (after, r)
+
+-- A node's row, and an edge's.
+abbrev pub node_put : NodeSlots → ℕ → Node → NodeSlots
+node_put x i v = record { kinds = set x.kinds i v.kind; checks = set x.checks i v.check; privileged = set x.privileged i v.privileged; entries = set x.entries i v.entry; grants = set x.grants i v.grants }
+
+abbrev pub edge_put : EdgeSlots → ℕ → Edge → EdgeSlots
+edge_put x i v = record { froms = set x.froms i v.from; tos = set x.tos i v.to; ways = set x.ways i v.way }
+
+abbrev pub node_kept : List ℕ → NodeSlots → (from i : ℕ) → Got NodeSlots
+node_kept s x from i = on_got (kept_row s from i) no (λ v p. got (node_put x i v) p)
+
+abbrev pub edge_kept : List ℕ → EdgeSlots → (from i : ℕ) → Got EdgeSlots
+edge_kept s x from i = on_got (edge_row s from i) no (λ v p. got (edge_put x i v) p)
+
+-- All places as lists.
+abbrev pub slots : Slots → Lent
+slots x = record { nodes = node_slots x.nodes; edges = edge_slots x.edges }
 
 -- ---- a whole text, by its parts
 

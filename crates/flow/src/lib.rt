@@ -154,24 +154,32 @@ pub fn counts(system: System, kind: u8, check: u16, wide: u64, v: u64) -> bool
     kind == graph::KIND_CHECK && by.has(check as usize)
 }
 
+// What begins a node's sums: its entry mark, and the grants and the check that go with it.
+#[derive(Clone, Copy)]
+pub struct Entry {
+    pub mark: u8,
+    pub grants: u64,
+    pub check: u16,
+}
+
 // A node's sum of all that arrives, before anything but its entry mark does.
-pub fn first_sum(system: System, k: usize, node: Node) -> u64
-    ensures { result ≡ start_ins (system_of system) k node.entry node.grants }
+pub fn first_sum(system: System, k: usize, entry: Entry) -> u64
+    ensures { result ≡ start_ins (system_of system) k entry.mark entry.grants }
 {
-    if node.entry == graph::MARKED {
-        node.grants
+    if entry.mark == graph::MARKED {
+        entry.grants
     } else {
         start(system, k)
     }
 }
 
 // And its sum of what passes its check.
-pub fn first_passing(system: System, k: usize, node: Node) -> u64
-    ensures { result ≡ start_past (system_of system) k node.entry node.grants node.check }
+pub fn first_passing(system: System, k: usize, entry: Entry) -> u64
+    ensures { result ≡ start_past (system_of system) k entry.mark entry.grants entry.check }
 {
-    let own = Set { bits: node.grants };
-    if node.entry == graph::MARKED && own.has(node.check as usize) {
-        node.grants
+    let own = Set { bits: entry.grants };
+    if entry.mark == graph::MARKED && own.has(entry.check as usize) {
+        entry.grants
     } else {
         start(system, k)
     }

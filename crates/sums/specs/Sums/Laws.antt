@@ -5,7 +5,7 @@ use Rattle.std.proofs.Math.Bool.{or-false}
 use Rattle.std.proofs.lemmas.List.{set-get_or}
 use Rattle.std.proofs.Math.Seq.{set_out}
 use Rattle.truth.specs.Truth.Kit.{same_list}
-use Rattle.graph.specs.Graph.{System}
+use Rattle.graph.specs.Graph.{System, PerNode}
 use Rattle.flow.specs.Walk.{merge, Begun, Delivered}
 use Rattle.sums.specs.Sums.{Merges, Delivers, Room, Begins, begun, kept}
 
@@ -45,9 +45,8 @@ delivers_low y s q b v counted s' q' r hs hq d = record {
 
 -- ---- how sums begin
 
-module _ (y : System) (k n : ℕ) (checks entries grants s q : List ℕ) where
-  pub begins_begun : {r : Bool} {s' q' : List ℕ} → Room n (length s) (length q) (length checks) (length entries) (length grants)
-      → Begins y k n checks entries grants s q r s' q' → Begun y k n checks entries grants s' q'
+module _ (y : System) (k n : ℕ) (nodes : PerNode (List ℕ)) (s q : List ℕ) where
+  pub begins_begun : {r : Bool} {s' q' : List ℕ} → Room n nodes s q → Begins y k n nodes s q r s' q' → Begun y k n nodes.checks nodes.entries nodes.grants s' q'
   begins_begun h (begun _ b) = b.first
   begins_begun h (kept d) = absurd (d h)
 
@@ -56,7 +55,7 @@ module _ (y : System) (k n : ℕ) (checks entries grants s q : List ℕ) where
 pub delivers_one : {y : System} {s q a b x z : List ℕ} {n v : ℕ} {counted r t : Bool} → Delivers y s q n v counted a x r → Delivers y s q n v counted b z t → (r ≡ t) × (a ≡ b) × (x ≡ z)
 delivers_one f h = (f.told ∙ sym h.told, f.ins ∙ sym h.ins, f.past ∙ sym h.past)
 
-pub begins_one : {y : System} {k n : ℕ} {checks entries grants s q a b x z : List ℕ} {r t : Bool} → Begins y k n checks entries grants s q r a x → Begins y k n checks entries grants s q t b z
+pub begins_one : {y : System} {k n : ℕ} {nodes : PerNode (List ℕ)} {s q a b x z : List ℕ} {r t : Bool} → Begins y k n nodes s q r a x → Begins y k n nodes s q t b z
     → (r ≡ t) × (a ≡ b) × (x ≡ z)
 begins_one {n} (begun m f) (begun o h) = (
   refl,

@@ -1,138 +1,85 @@
 // One round of the equations by slices, for any solver and any judge of out sets: from the sums of the nodes to the out sets of the edges, and
-// from these to the sums.
+// from these to the sums. Of a graph's size K alone is looked at: there are as many nodes as kinds, and as many edges as from nodes.
 #![tactic(auto)]
 
-ghost use Rattle.std.specs.Prelude.{◌≡◌, ℕ, ◌≤◌, ◌<◌, length, get_or};
-ghost use Rattle.truth.specs.Truth.{Says, All};
-ghost use Rattle.flow.specs.Walk.{system_of, carried_by};
+ghost use Rattle.std.specs.Prelude.{◌≡◌, ◌<◌, length, get_or};
+ghost use Rattle.truth.specs.Truth.{Says};
+ghost use Rattle.graph.specs.Lent.{lent};
+ghost use Rattle.flow.specs.Walk.{system_of, carried};
 ghost use Rattle.round.specs.Round.{Room, EndsLow, Carriable, CanSpread, SpreadAll, Spreads, ins_to, past_to, Gatherable, Gathers};
 
-// The loop has no early end, so that it is compiled to steps of several places.
-fn all_below(list: &[u16], n: u16) -> bool
-    ensures { Says (All (λ i. get_or list.now i 0 < n) (length list.now)) result }
+use flow::{Arrived, System};
+use graph::{LentGraph, Node};
+use sums::Sums;
+
+// Whether there is a place for each node and each edge.
+fn have_room(graph: &LentGraph, any: &[u64], ins: &[u64], past: &[u64], out: &[u64]) -> bool
+    ensures { Says (Room (lent graph.now) any.now ins.now past.now out.now) result }
 {
-    let mut good = true;
-    let mut i = 0;
-    while i < list.len() {
-        good = good & (list[i] < n);
-        i += 1;
-    }
-    good
+    let n = graph.nodes.kinds.len();
+    let m = graph.edges.froms.len();
+    n <= graph.nodes.checks.len()
+        && n <= graph.nodes.privileged.len()
+        && n <= graph.nodes.grants.len()
+        && n <= any.len()
+        && n <= ins.len()
+        && n <= past.len()
+        && graph.edges.tos.len() == m
+        && m <= graph.edges.ways.len()
+        && m <= out.len()
 }
 
 // Whether all ends of edges are nodes below n, whose numbers 16 bits hold.
 fn ends_low(n: usize, froms: &[u16], tos: &[u16]) -> bool
     ensures { Says (EndsLow n froms.now tos.now) result }
 {
-    if worklist::LARGEST < n {
-        return false;
-    }
-    let bound = n as u16;
-    if !all_below(froms, bound) {
-        return false;
-    }
-    all_below(tos, bound)
-}
-
-// Whether there is a place for each of n nodes and each of m edges, by lengths.
-fn have_room(
-    n: usize,
-    m: usize,
-    checks: usize,
-    privileged: usize,
-    grants: usize,
-    tos: usize,
-    ways: usize,
-    any: usize,
-    ins: usize,
-    past: usize,
-    out: usize,
-) -> bool
-    ensures { Says (Room n m checks privileged grants tos ways any ins past out) result }
-{
-    if checks < n {
-        return false;
-    }
-    if privileged < n {
-        return false;
-    }
-    if grants < n {
-        return false;
-    }
-    if any < n {
-        return false;
-    }
-    if ins < n {
-        return false;
-    }
-    if past < n {
-        return false;
-    }
-    if tos != m {
-        return false;
-    }
-    if ways < m {
-        return false;
-    }
-    m <= out
+    n <= worklist::LARGEST && worklist::all_below(froms, n) && worklist::all_below(tos, n)
 }
 
 // The out set of edge e.
 fn out_of(
-    sure: bool,
+    system: System,
     e: usize,
-    kinds: &[u8],
-    checks: &[u16],
-    privileged: &[u8],
-    grants: &[u64],
-    froms: &[u16],
-    tos: &[u16],
-    ways: &[u8],
+    graph: &LentGraph,
     any: &[u64],
     ins: &[u64],
     past: &[u64],
 ) -> u64
-    requires { Carriable kinds.now checks.now privileged.now grants.now froms.now tos.now ways.now any.now ins.now past.now e }
-    ensures { result ≡ carried_by kinds.now checks.now privileged.now grants.now froms.now tos.now ways.now (system_of sure) any.now ins.now past.now e }
+    requires { Carriable (lent graph.now) any.now ins.now past.now e }
+    ensures { result ≡ carried (lent graph.now) (system_of system) any.now ins.now past.now e }
 {
-    let a = froms[e] as usize;
-    let b = tos[e] as usize;
-    let x = flow::leave(
-        sure,
-        kinds[a],
-        checks[a],
-        privileged[a],
-        grants[a],
-        ins[a],
-        past[a],
-        any[a],
-    );
-    flow::carry(ways[e], x.call, x.trans, grants[b])
+    let a = graph.edges.froms[e] as usize;
+    let b = graph.edges.tos[e] as usize;
+    // No entry mark tells what leaves a node, and a caller need not lend them.
+    let node = Node {
+        kind: graph.nodes.kinds[a],
+        check: graph.nodes.checks[a],
+        privileged: graph.nodes.privileged[a],
+        entry: 0,
+        grants: graph.nodes.grants[a],
+    };
+    let arrived = Arrived {
+        all: ins[a],
+        past: past[a],
+        any: any[a],
+    };
+    let leaving = flow::leave(system, node, arrived);
+    flow::carry(graph.edges.ways[e], leaving, graph.nodes.grants[b])
 }
 
 fn spread_all(
     out: &mut [u64],
-    sure: bool,
-    kinds: &[u8],
-    checks: &[u16],
-    privileged: &[u8],
-    grants: &[u64],
-    froms: &[u16],
-    tos: &[u16],
-    ways: &[u8],
+    system: System,
+    graph: &LentGraph,
     any: &[u64],
     ins: &[u64],
     past: &[u64],
 )
-    requires { CanSpread kinds.now checks.now privileged.now grants.now froms.now tos.now ways.now any.now ins.now past.now out.old }
-    ensures { SpreadAll kinds.now checks.now privileged.now grants.now froms.now tos.now ways.now (system_of sure) any.now ins.now past.now out.old out.new }
+    requires { CanSpread (lent graph.now) any.now ins.now past.now out.old }
+    ensures { SpreadAll (lent graph.now) (system_of system) any.now ins.now past.now out.old out.new }
 {
-    let mut e = 0;
-    while e < froms.len() {
-        out[e] = out_of(
-            sure, e, kinds, checks, privileged, grants, froms, tos, ways, any, ins, past,
-        );
-        e += 1;
+    for e in 0..graph.edges.froms.len() {
+        out[e] = out_of(system, e, graph, any, ins, past);
     }
 }
 
@@ -140,112 +87,59 @@ fn spread_all(
 // were stored: nothing is where a slice has no place for each node or edge, or an edge's end is no node.
 pub fn spread(
     out: &mut [u64],
-    sure: bool,
-    kinds: &[u8],
-    checks: &[u16],
-    privileged: &[u8],
-    grants: &[u64],
-    froms: &[u16],
-    tos: &[u16],
-    ways: &[u8],
+    system: System,
+    graph: &LentGraph,
     any: &[u64],
     ins: &[u64],
     past: &[u64],
 ) -> bool
-    ensures { Spreads kinds.now checks.now privileged.now grants.now froms.now tos.now ways.now (system_of sure) any.now ins.now past.now out.old result out.new }
+    ensures { Spreads (lent graph.now) (system_of system) any.now ins.now past.now out.old result out.new }
 {
-    let n = kinds.len();
-    if !have_room(
-        n,
-        froms.len(),
-        checks.len(),
-        privileged.len(),
-        grants.len(),
-        tos.len(),
-        ways.len(),
-        any.len(),
-        ins.len(),
-        past.len(),
-        out.len(),
-    ) {
-        return false;
+    let n = graph.nodes.kinds.len();
+    let can = have_room(graph, any, ins, past, out)
+        && ends_low(n, graph.edges.froms, graph.edges.tos);
+    if can {
+        spread_all(out, system, graph, any, ins, past);
     }
-    if !ends_low(n, froms, tos) {
-        return false;
-    }
-    spread_all(
-        out, sure, kinds, checks, privileged, grants, froms, tos, ways, any, ins, past,
-    );
-    true
+    can
 }
 
-// Whether every edge ends at a node below n and has both out sets, by lengths.
-fn can_gather(n: usize, checks: usize, wide: usize, out: usize, tos: &[u16]) -> bool
-    ensures { Says (Gatherable n checks wide out tos.now) result }
+// Whether every edge ends at a node, which 16 bits hold, and has both out sets.
+fn can_gather(graph: &LentGraph, wide: &[u64], out: &[u64]) -> bool
+    ensures { Says (Gatherable (lent graph.now) wide.now out.now) result }
 {
-    if worklist::LARGEST < n {
-        return false;
-    }
-    if checks < n {
-        return false;
-    }
-    if wide < tos.len() {
-        return false;
-    }
-    if out < tos.len() {
-        return false;
-    }
-    let bound = n as u16;
-    all_below(tos, bound)
+    let n = graph.nodes.kinds.len();
+    let tos = graph.edges.tos;
+    n <= worklist::LARGEST
+        && n <= graph.nodes.checks.len()
+        && tos.len() <= wide.len()
+        && tos.len() <= out.len()
+        && worklist::all_below(tos, n)
 }
 
-fn gather_all(
-    ins: &mut [u64],
-    past: &mut [u64],
-    sure: bool,
-    kinds: &[u8],
-    checks: &[u16],
-    tos: &[u16],
-    wide: &[u64],
-    out: &[u64],
-)
-    requires { Gatherable (length kinds.now) (length checks.now) (length wide.now) (length out.now) tos.now }
-    ensures { (ins.new ≡ ins_to tos.now (system_of sure) out.now (length tos.now) ins.old) × (past.new ≡ past_to kinds.now checks.now tos.now (system_of sure) wide.now out.now (length tos.now) past.old) }
+fn gather_all(sums: &mut Sums, system: System, graph: &LentGraph, wide: &[u64], out: &[u64])
+    requires { Gatherable (lent graph.now) wide.now out.now }
+    ensures ins { sums.new.ins.now ≡ ins_to (lent graph.now) (system_of system) out.now (length graph.now.edges.tos.now) sums.old.ins.now }
+    ensures past { sums.new.past.now ≡ past_to (lent graph.now) (system_of system) wide.now out.now (length graph.now.edges.tos.now) sums.old.past.now }
 {
-    let mut e = 0;
-    while e < tos.len() {
-        let b = tos[e] as usize;
+    for e in 0..graph.edges.tos.len() {
+        let b = graph.edges.tos[e] as usize;
         let v = out[e];
-        let counted = flow::counts(sure, kinds[b], checks[b], wide[e], v);
-        sums::deliver(ins, past, sure, b, v, counted);
-        e += 1;
+        let kind = graph.nodes.kinds[b];
+        let counted = flow::counts(system, kind, graph.nodes.checks[b], wide[e], v);
+        sums.deliver(system, b, v, counted);
     }
 }
 
 // The sums of the nodes, from the out sets of all edges. SURE judges what passes a check by MAY's out sets, `wide`. Whether they were stored:
 // nothing is where a slice has no place for each node or edge, or an edge ends at no node.
-pub fn gather(
-    ins: &mut [u64],
-    past: &mut [u64],
-    sure: bool,
-    k: usize,
-    kinds: &[u8],
-    checks: &[u16],
-    entries: &[u8],
-    grants: &[u64],
-    tos: &[u16],
-    wide: &[u64],
-    out: &[u64],
-) -> bool
-    ensures { Gathers (system_of sure) k kinds.now checks.now entries.now grants.now tos.now wide.now out.now ins.old past.old result ins.new past.new }
+pub fn gather(sums: &mut Sums, system: System, graph: &LentGraph, wide: &[u64], out: &[u64]) -> bool
+    ensures { Gathers (lent graph.now) (system_of system) wide.now out.now sums.old.ins.now sums.old.past.now result sums.new.ins.now sums.new.past.now }
 {
-    let n = kinds.len();
-    if !can_gather(n, checks.len(), wide.len(), out.len(), tos) {
-        return false;
+    let n = graph.nodes.kinds.len();
+    let begun = can_gather(graph, wide, out) && sums.begin(system, graph.size.k, n, &graph.nodes);
+    if begun {
+        gather_all(sums, system, graph, wide, out);
     }
-    if !sums::begin(ins, past, sure, k, n, checks, entries, grants) {
-        return false;
-    }
-    gather_all(ins, past, sure, kinds, checks, tos, wide, out);
-    true
+    begun
 }

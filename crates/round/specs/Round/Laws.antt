@@ -2,16 +2,15 @@
 use Rattle.std.specs.Prelude.{ℕ, ◌+◌, ◌≤◌, ◌<◌, ◌≡◌, refl, List, Bool, true, false, length, get_or}
 use Rattle.std.proofs.Common.{sym, ap, ◌∙◌, arith, add-one}
 use Rattle.graph.specs.Graph.{Graph, Acceptable, System}
-use Rattle.flow.specs.Walk.{counts_by, carried}
+use Rattle.flow.specs.Walk.{counts, carried, to_of}
 use Rattle.truth.specs.Truth.Kit.{same_list}
 use Rattle.sums.specs.Sums.{Delivers, Begins, begun, kept}
 use Rattle.sums.specs.Sums.Laws.{begins_one}
-use Rattle.round.specs.Round.{Carriable, CanSpread, Spreads, spread, unspread, ins_to, past_to, Gatherable, Gathers, gathered, unsent, unbegun}
+use Rattle.round.specs.Round.{nodes, Carriable, CanSpread, Spreads, spread, unspread, sums_to, ins_to, past_to, Gatherable, Gathers, gathered, unsent, unbegun}
 use Rattle.truth.specs.Truth.Bools.{clash}
 
-pub carriable : (kinds checks privileged grants froms tos ways a s q out : List ℕ) → CanSpread kinds checks privileged grants froms tos ways a s q out
-    → (e : ℕ) → e < length froms → Carriable kinds checks privileged grants froms tos ways a s q e
-carriable kinds checks privileged grants froms tos ways a s q out h e l =
+pub carriable : (g : Graph) (a s q out : List ℕ) → CanSpread g a s q out → (e : ℕ) → e < length g.edges.froms → Carriable g a s q e
+carriable g a s q out h e l =
     let r = h.room in
     let f = h.low.starts e l in
     let t = h.low.ends e (omega (arith, r.tos_long)) in
@@ -30,7 +29,7 @@ carriable kinds checks privileged grants froms tos ways a s q out h e l =
     }
 
 module _ (g : Graph) (y : System) (a s q out : List ℕ) (acc : Acceptable g) (lo : g.size.m ≤ length out) (la : g.size.n ≤ length a) (ls : g.size.n ≤ length s) (lq : g.size.n ≤ length q) where
-  can_spread : CanSpread g.nodes.kinds g.nodes.checks g.nodes.privileged g.nodes.grants g.edges.froms g.edges.tos g.edges.ways a s q out
+  can_spread : CanSpread g a s q out
   can_spread =
       let n = acc.shape.nodes in
       let e = acc.shape.edges in
@@ -54,57 +53,52 @@ module _ (g : Graph) (y : System) (a s q out : List ℕ) (acc : Acceptable g) (l
       }
 
   -- so the out sets are stored
-  pub spreads_all : {r : Bool} {out' : List ℕ} → Spreads g.nodes.kinds g.nodes.checks g.nodes.privileged g.nodes.grants g.edges.froms g.edges.tos g.edges.ways y a s q out r out'
-      → (e : ℕ) → e < g.size.m → get_or out' e 0 ≡ carried g y a s q e
+  pub spreads_all : {r : Bool} {out' : List ℕ} → Spreads g y a s q out r out' → (e : ℕ) → e < g.size.m → get_or out' e 0 ≡ carried g y a s q e
   spreads_all (spread _ f) e l = f.sets e (omega (arith, acc.shape.edges.froms))
   spreads_all (unspread d) e l = absurd (d can_spread)
 
 -- ---- from the out sets to the sums
 
-module _ (kinds checks tos : List ℕ) (y : System) (w o s₀ q₀ : List ℕ) where
+module _ (g : Graph) (y : System) (w o s₀ q₀ : List ℕ) where
   -- one edge more arrives
-  pub gather_more : (e : ℕ) (counted told : Bool) (s q s' q' : List ℕ) → counted ≡ counts_by kinds checks tos y w e (get_or o e 0)
-      → Delivers y s q (get_or tos e 0) (get_or o e 0) counted s' q' told
-      → s ≡ ins_to tos y o e s₀ → q ≡ past_to kinds checks tos y w o e q₀
-      → (s' ≡ ins_to tos y o (e + 1) s₀) × (q' ≡ past_to kinds checks tos y w o (e + 1) q₀)
-  unfolding ins_to past_to
+  pub gather_more : (e : ℕ) (counted told : Bool) (s q s' q' : List ℕ) → counted ≡ counts g y w e (get_or o e 0)
+      → Delivers y s q (to_of g e) (get_or o e 0) counted s' q' told
+      → s ≡ ins_to g y o e s₀ → q ≡ past_to g y w o e q₀
+      → (s' ≡ ins_to g y o (e + 1) s₀) × (q' ≡ past_to g y w o (e + 1) q₀)
+  unfolding sums_to
   gather_more e counted told s q s' q' c d i j =
       (rw (add-one e, ← i) d.ins, rw (add-one e, ← j, ← c) d.past)
 
 -- whether the sums begin decides the rest
-module _ (y : System) (k : ℕ) (kinds checks entries grants tos w o s q : List ℕ) where
-  pub unbegun_by : {r : Bool} {s₀ q₀ : List ℕ} → r ≡ false → Begins y k (length kinds) checks entries grants s q r s₀ q₀
-      → Gathers y k kinds checks entries grants tos w o s q false s₀ q₀
+module _ (g : Graph) (y : System) (w o s q : List ℕ) where
+  pub unbegun_by : {r : Bool} {s₀ q₀ : List ℕ} → r ≡ false → Begins y g.size.k (nodes g) g.nodes s q r s₀ q₀ → Gathers g y w o s q false s₀ q₀
   unbegun_by e (begun _ _) = clash refl e
   unbegun_by e (kept d) = unbegun (kept d)
 
-  pub gathered_by : {r : Bool} {s₀ q₀ : List ℕ} (s' q' : List ℕ) → Gatherable (length kinds) (length checks) (length w) (length o) tos → r ≡ true
-      → Begins y k (length kinds) checks entries grants s q r s₀ q₀
-      → (s' ≡ ins_to tos y o (length tos) s₀) × (q' ≡ past_to kinds checks tos y w o (length tos) q₀)
-      → Gathers y k kinds checks entries grants tos w o s q true s' q'
-  gathered_by s' q' h e b i = rw (i.0, i.1) (gathered h (rw e at b))
+  pub gathered_by : {r : Bool} {s₀ q₀ : List ℕ} (s' q' : List ℕ) → Gatherable g w o → r ≡ true → Begins y g.size.k (nodes g) g.nodes s q r s₀ q₀
+      → s' ≡ ins_to g y o (length g.edges.tos) s₀ → q' ≡ past_to g y w o (length g.edges.tos) q₀ → Gathers g y w o s q true s' q'
+  gathered_by s' q' h e b i j = rw (i, j) (gathered h (rw e at b))
 
 -- ---- one answer, and one content
 
-module _ {kinds checks privileged grants froms tos ways : List ℕ} {y : System} {a s q out : List ℕ} where
-  pub spreads_one : {r t : Bool} {x z : List ℕ} → Spreads kinds checks privileged grants froms tos ways y a s q out r x → Spreads kinds checks privileged grants froms tos ways y a s q out t z
-      → (r ≡ t) × (x ≡ z)
+module _ {g : Graph} {y : System} {a s q out : List ℕ} where
+  pub spreads_one : {r t : Bool} {x z : List ℕ} → Spreads g y a s q out r x → Spreads g y a s q out t z → (r ≡ t) × (x ≡ z)
   spreads_one (spread c f) (spread d h) =
-      (refl, same_list (length froms) _ _ (f.long ∙ sym h.long) (λ e l. f.sets e l ∙ sym (h.sets e l)) (λ e l. f.rest e l ∙ sym (h.rest e l)))
+      (refl, same_list (length g.edges.froms) _ _ (f.long ∙ sym h.long) (λ e l. f.sets e l ∙ sym (h.sets e l)) (λ e l. f.rest e l ∙ sym (h.rest e l)))
   spreads_one (spread c f) (unspread h) = absurd (h c)
   spreads_one (unspread h) (spread c f) = absurd (h c)
   spreads_one (unspread f) (unspread h) = (refl, refl)
 
-module _ {y : System} {k : ℕ} {kinds checks entries grants tos w o s q : List ℕ} where
-  pub gathers_one : {r t : Bool} {a b x z : List ℕ} → Gathers y k kinds checks entries grants tos w o s q r a x → Gathers y k kinds checks entries grants tos w o s q t b z → (r ≡ t) × (a ≡ b) × (x ≡ z)
-  gathers_one (gathered g f) (gathered d h) =
+module _ {g : Graph} {y : System} {w o s q : List ℕ} where
+  pub gathers_one : {r t : Bool} {a b x z : List ℕ} → Gathers g y w o s q r a x → Gathers g y w o s q t b z → (r ≡ t) × (a ≡ b) × (x ≡ z)
+  gathers_one (gathered c f) (gathered d h) =
       let one = begins_one f h in
-      (refl, ap (ins_to tos y o (length tos)) one.1, ap (past_to kinds checks tos y w o (length tos)) one.2)
-  gathers_one (gathered g f) (unsent h) = absurd (h g)
-  gathers_one (gathered g f) (unbegun h) = clash refl (begins_one f h).0
-  gathers_one (unsent h) (gathered g f) = absurd (h g)
+      (refl, ap (ins_to g y o (length g.edges.tos)) one.1, ap (past_to g y w o (length g.edges.tos)) one.2)
+  gathers_one (gathered c f) (unsent h) = absurd (h c)
+  gathers_one (gathered c f) (unbegun h) = clash refl (begins_one f h).0
+  gathers_one (unsent h) (gathered c f) = absurd (h c)
   gathers_one (unsent f) (unsent h) = (refl, refl, refl)
   gathers_one (unsent f) (unbegun h) = (refl, refl, refl)
-  gathers_one (unbegun h) (gathered g f) = clash refl (begins_one f h).0
+  gathers_one (unbegun h) (gathered c f) = clash refl (begins_one f h).0
   gathers_one (unbegun f) (unsent h) = (refl, refl, refl)
   gathers_one (unbegun f) (unbegun h) = (refl, refl, refl)

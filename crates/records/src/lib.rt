@@ -15,6 +15,7 @@ use scan;
 use scan::{At, Listed};
 
 // Grants that end a row.
+#[tactic(auto, unfolding(crate::specs::Records::grants_at))]
 pub fn read_grants(s: &[u8], at: usize) -> Option<At<Listed>>
     ensures { result ≡ read_as listed (grants_at s.now at) }
 {
@@ -35,6 +36,7 @@ pub struct Lead {
 }
 
 // A node row before its grants, where its own number is i.
+#[tactic(auto, unfolding(crate::specs::Records::lead_at))]
 pub fn read_lead(s: &[u8], at: usize, i: usize) -> Option<At<Lead>>
     ensures { result ≡ lead_at s.now at i }
 {
@@ -65,6 +67,7 @@ struct Three {
 }
 
 // A letter, two numbers, a field of a form and two empty fields.
+#[tactic(auto, unfolding(crate::specs::Records::three_at))]
 fn read_three(s: &[u8], at: usize, letter: u8, form: Form) -> Option<At<Three>>
     ensures { result ≡ three_at letter form s.now at }
 {
@@ -84,6 +87,7 @@ fn read_three(s: &[u8], at: usize, letter: u8, form: Form) -> Option<At<Three>>
     })
 }
 
+#[tactic(auto, unfolding(crate::specs::Records::edge_at))]
 pub fn read_edge(s: &[u8], at: usize) -> Option<At<Edge>>
     ensures { result ≡ edge_at s.now at }
 {
@@ -99,6 +103,7 @@ pub fn read_edge(s: &[u8], at: usize) -> Option<At<Edge>>
 }
 
 // The first row.
+#[tactic(auto, unfolding(crate::specs::Records::header_at))]
 pub fn read_header(s: &[u8], at: usize) -> Option<At<Size>>
     ensures { result ≡ header_at s.now at }
 {

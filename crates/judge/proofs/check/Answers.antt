@@ -1,39 +1,41 @@
 -- Each test that refuses nothing leaves a fact behind it: the slices have their shape, then every node obeys, then every edge. An answer joins the
 -- facts of the tests before it.
-use Rattle.graph.specs.Judge.Laws.{edge_given, accepted_given, entry_given}
-use Rattle.graph.specs.Judge.{shape, node, refused}
-use Rattle.truth.specs.Truth.Tests.{says_true, says_false}
-use borrow.Author.Rules.{rules}
+use borrow.Author.Tests.{eqb-true}
+use Rattle.std.proofs.Common.{true≢false, sym, ◌∙◌, eq-eqb, arith}
+use Rattle.truth.specs.Truth.Tests.{says_true, says_false, finds_none, finds_low, finds_first}
+use Rattle.graph.specs.Graph.{Shape}
+use Rattle.graph.specs.Lent.{lent}
+use Rattle.graph.specs.Judge.{shape, node, edge, entry, accepted, refused}
+use Rattle.judge.proofs.check.Goals.{Else-not-has_shape}
 use Rattle.judge.proofs.check.Goals as goal
 
+shaped : (c : Else-not-has_shape) → Shape (lent c.args.graph.now)
+shaped c = says_true (rw (c.lengths.ensures, c.lengths-2.ensures) at c.has_shape.ensures) c.if-not-has_shape.false
+
 pub returns-then-not-has_shape : goal.returns-then-not-has_shape
-returns-then-not-has_shape c = refused (shape (says_false c.has_shape.ensures c.if-not-has_shape.true))
+returns-then-not-has_shape c = refused (shape (says_false (rw (c.lengths.ensures, c.lengths-2.ensures) at c.has_shape.ensures) c.if-not-has_shape.true))
 
-pub first_bad_node-i-requires : goal.first_bad_node-i-requires
-first_bad_node-i-requires c = let s = says_true c.has_shape.ensures c.if-not-has_shape.false in search rules
+pub returns-in-Some : goal.returns-in-Some
+returns-in-Some c =
+    refused (node (shaped (goal.at.returns-in-Some c).Else-not-has_shape) (finds_low c.in-Some.ensures) (finds_first c.in-Some.ensures))
 
-pub returns-then-i-n : goal.returns-then-i-n
-returns-then-i-n c =
-    refused (node (says_true c.has_shape.ensures c.if-not-has_shape.false) c.if-i-n.true c.first_bad_node-i.ensures)
+pub first_bad_edge-requires : goal.first_bad_edge-requires
+first_bad_edge-requires c = shaped (goal.at.first_bad_edge-requires c).Else-not-has_shape
 
-pub first_bad_edge-e-requires : goal.first_bad_edge-e-requires
-first_bad_edge-e-requires c =
-    let s = says_true c.has_shape.ensures c.if-not-has_shape.false in
-    search rules
+pub returns-in-Some-first_bad_edge : goal.returns-in-Some-first_bad_edge
+returns-in-Some-first_bad_edge c =
+    let e = c.in-Some-first_bad_edge.ensures in
+    refused (edge (shaped (goal.at.returns-in-Some-first_bad_edge c).Else-not-has_shape) (finds_none c.in_default.ensures) (finds_low e) (finds_first e))
 
-pub returns-then-e-m : goal.returns-then-e-m
-returns-then-e-m c =
-    edge_given _ (says_true c.has_shape.ensures c.if-not-has_shape.false) c.first_bad_node-i.ensures c.if-i-n.false c.if-e-m.true c.first_bad_edge-e.ensures
-
-pub first_entry-requires : goal.first_entry-requires
-first_entry-requires c =
-    let s = says_true c.has_shape.ensures c.if-not-has_shape.false in
-    search rules
-
-pub returns-then-first_entry-n : goal.returns-then-first_entry-n
-returns-then-first_entry-n c =
-    accepted_given _ (says_true c.has_shape.ensures c.if-not-has_shape.false) c.first_bad_node-i.ensures c.if-i-n.false c.first_bad_edge-e.ensures c.if-e-m.false c.first_entry.ensures c.if-first_entry-n.true
+pub returns-then-not-contains : goal.returns-then-not-contains
+returns-then-not-contains c =
+    let s = shaped (goal.at.returns-then-not-contains c).Else-not-has_shape in
+    refused
+    (entry s (finds_none c.in_default.ensures) (finds_none c.in_default-first_bad_edge.ensures)
+    (λ i l e. true≢false (sym (eq-eqb _ 1 e) ∙ c.if-not-contains.ensures.cases i 0 (omega arith) (omega (arith, s.nodes.entries)))))
 
 pub returns : goal.returns
 returns c =
-    entry_given _ (says_true c.has_shape.ensures c.if-not-has_shape.false) c.first_bad_node-i.ensures c.if-i-n.false c.first_bad_edge-e.ensures c.if-e-m.false c.first_entry.ensures c.if-first_entry-n.false
+    let s = shaped (goal.at.returns c).Else-not-has_shape in
+    let (i, l, e) = c.if-not-contains.ensures.cases in
+    accepted (record { shape = s; nodes = finds_none c.in_default.ensures; edges = finds_none c.in_default-first_bad_edge.ensures; entered = (i, omega (arith, s.nodes.entries), eqb-true _ 1 (e 0)) })

@@ -1,19 +1,12 @@
-use Rattle.truth.specs.Truth.Tests.{says_same}
-use Rattle.truth.specs.Truth.{fails}
-use native.Mathlib.Omega.{arith}
+use borrow.Author.Rules.{rules}
+use borrow.Author.Tests.{tests}
+use Rattle.truth.specs.Truth.Tests.{says_same, says_no}
 use Rattle.judge.proofs.edge_obeys.Goals as goal
 
-pub overflow_cast-from : goal.overflow_cast-from
-overflow_cast-from c = omega (arith, c.type_inv.froms c.args.e)
+pub returns-then-to-graph : goal.returns-then-to-graph
+returns-then-to-graph c =
+    let ends = rw (c.from-from.ensures, c.from-to.ensures) at c.ends_obey.ensures in
+    says_same ends (λ h. record { from_node = search rules; to_node = search rules; ends = h }) (λ r. r.ends)
 
-pub overflow_cast-to : goal.overflow_cast-to
-overflow_cast-to c = omega (arith, c.type_inv.tos c.args.e)
-
-pub returns-then-n-from : goal.returns-then-n-from
-returns-then-n-from c = fails (λ r. omega (arith, r.from_node))
-
-pub returns-then-n-to : goal.returns-then-n-to
-returns-then-n-to c = fails (λ r. omega (arith, r.to_node))
-
-pub returns : goal.returns
-returns c = says_same c.ends_obey.ensures (λ h. record { from_node = omega arith; to_node = omega arith; ends = h }) (λ r. r.ends)
+pub returns-else-to-graph : goal.returns-else-to-graph
+returns-else-to-graph c = says_no c.if-to-graph.false (λ r. search (rules, tests))

@@ -24,11 +24,11 @@ const CALL_EDGE: usize = graph::CALL as usize;
 
 const TRANSFER_EDGE: usize = graph::TRANSFER as usize;
 
-const MARK_PRIVILEGED: usize = 1;
+pub const MARK_PRIVILEGED: usize = 1;
 
-const MARK_ENTRY: usize = 2;
+pub const MARK_ENTRY: usize = 2;
 
-const MARK_BOTH: usize = 3;
+pub const MARK_BOTH: usize = 3;
 
 // What a field is to be.
 #[derive(Clone, Copy, PartialEq, Eq)]

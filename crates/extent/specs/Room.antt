@@ -1,4 +1,5 @@
 -- What arrays hold that have room for every graph. Definitions alone.
+pub mod Laws
 use Rattle.std.specs.Prelude.{ℕ, ◌≡◌, List, length, get_or}
 use Rattle.graph.specs.Graph.{Graph, PerNode, PerEdge, nodes_of, edges_of, map_node, map_edge, EachNode, EachEdge}
 use Rattle.graph.specs.declared.Size.{Size}

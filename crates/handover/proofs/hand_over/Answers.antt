@@ -1,36 +1,40 @@
--- Lengths are looked at and the graph is judged before anything is stored: a refusal finds the slices as they were, and what is accepted has the
+-- Lengths are looked at and the graph is judged before anything is stored: a refusal finds the places as they were, and what is accepted has the
 -- lengths and counts that the copies ask for.
+use Rattle.std.proofs.lemmas.Result.{err_from_is_err_and}
+use Rattle.truth.specs.Truth.{Says}
 use Rattle.truth.specs.Truth.Tests.{says_true, says_false}
-use Rattle.handover.specs.Handover.{Lent, lent_of, Room, cramped, refused, accepted}
-use Rattle.handover.specs.Handover.Laws.{held_by, held_fine}
-use Rattle.handover.proofs.hand_over.Goals.{After-judge_held-judged}
+use Rattle.handover.specs.Handover.{lists_lent, places, Room, cramped, refused, accepted}
+use Rattle.handover.specs.Handover.Laws.{room_says, held_fine, Fine}
+use Rattle.handover.proofs.hand_over.Goals.{After-has_room, In_ok-judge}
 use Rattle.handover.proofs.hand_over.Goals as goal
 
--- what is known once the graph was judged
-module _ (c : After-judge_held-judged) where
-  abbrev lent : Lent
-  lent = lent_of c.args.kinds.now c.args.checks.now c.args.privileged.now c.args.entries.now c.args.grants.now c.args.froms.now c.args.tos.now c.args.ways.now
+module _ (c : After-has_room) where
+  room : Says (Room (places c.args.into.now)) c.has_room.result
+  room = room_says (places c.args.into.now) c.lengths.ensures c.lengths-2.ensures c.has_room.ensures
 
-  room : Room lent
-  room = let h = says_true c.has_room.ensures c.if-not-has_room.false in record { nodes = h.0; edges = h.1 }
+-- what is known once the graph was accepted
+module _ (c : In_ok-judge) where
+  fine : Fine c.args.held.now.size (lists_lent c.args.held.now)
+  fine = held_fine c.in_ok-judge.ensures
 
 pub returns-then-not-has_room : goal.returns-then-not-has_room
-returns-then-not-has_room c = cramped (λ r. says_false c.has_room.ensures c.if-not-has_room.true (r.nodes, r.edges))
+returns-then-not-has_room c = cramped (says_false (room (goal.at.returns-then-not-has_room c).After-has_room) c.if-not-has_room.true)
 
-pub returns-in-Refused : goal.returns-in-Refused
-returns-in-Refused c =
-    refused (room (goal.at.returns-in-Refused c).After-judge_held-judged) (held_by c.in-Refused.is c.judge_held-judged.ensures)
+pub returns-in_err-judge : goal.returns-in_err-judge
+returns-in_err-judge c =
+    let p = err_from_is_err_and c.from_residual.result c.from_residual.ensures.1 in
+    rw (p.1, p.2) (refused (says_true (room (goal.at.returns-in_err-judge c).After-has_room) c.if-not-has_room.false) c.in_err-judge.ensures)
 
 pub store_nodes-requires : goal.store_nodes-requires
 store_nodes-requires c =
-    let f = held_fine c.in_default.is c.judge_held-judged.ensures in
-    record { n_bound = (f.ranges.n_high, (room (goal.at.store_nodes-requires c).After-judge_held-judged).nodes); nodes_long = f.room.nodes }
+    let f = fine (goal.at.store_nodes-requires c).In_ok-judge in
+    record { counted = f.ranges.n_high; room = (says_true (room (goal.at.store_nodes-requires c).After-has_room) c.if-not-has_room.false).nodes; full = f.room.nodes }
 
 pub store_edges-requires : goal.store_edges-requires
 store_edges-requires c =
-    let f = held_fine c.in_default.is c.judge_held-judged.ensures in
-    record { m_bound = (f.ranges.m_high, (room (goal.at.store_edges-requires c).After-judge_held-judged).edges); edges_long = f.room.edges }
+    let f = fine (goal.at.store_edges-requires c).In_ok-judge in
+    record { counted = f.ranges.m_high; room = (says_true (room (goal.at.store_edges-requires c).After-has_room) c.if-not-has_room.false).edges; full = f.room.edges }
 
 pub returns : goal.returns
 returns c =
-    accepted (room (goal.at.returns c).After-judge_held-judged) (held_by c.in_default.is c.judge_held-judged.ensures) (record { nodes = c.store_nodes.ensures; edges = c.store_edges.ensures })
+    accepted (says_true (room (goal.at.returns c).After-has_room) c.if-not-has_room.false) c.in_ok-judge.ensures (record { nodes = c.store_nodes.ensures; edges = c.store_edges.ensures })

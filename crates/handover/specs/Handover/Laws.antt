@@ -1,5 +1,5 @@
 -- One answer and one content of what is handed over, and what slices hold that were written to.
-use Rattle.std.specs.Prelude.{ℕ, ◌-◌, ◌≤◌, ◌≡◌, refl, List, eqb, length, take, drop}
+use Rattle.std.specs.Prelude.{ℕ, ◌-◌, ◌≤◌, ◌≡◌, refl, List, Bool, eqb, length, take, drop}
 use Rattle.std.proofs.Common.{sym, ap, ◌∙◌, subst, arith}
 use Rattle.std.proofs.Math.Nat.{sub-zero}
 use Rattle.std.proofs.lemmas.List.Edits.{sets}
@@ -15,16 +15,13 @@ use Rattle.graph.specs.declared.Refusal.{Refusal}
 use Rattle.graph.specs.declared.Refusal.TheVariants as why
 use Rattle.graph.specs.Refusals.{Judged}
 use Rattle.std.specs.Prelude.{Ok, Err}
+use Rattle.extent.specs.Extent.{Ample}
 use Rattle.handover.specs.Handover.{Lent, Room, roomy, held_graph, NodesWritten, EdgesWritten, Copied, HeldJudged, bare, judged, HandsOver, cramped, refused, accepted}
 
--- the first places of each slice, as the check is lent them
-pub judged_held : (x : Lent) (c : Size) {j : Judged}
-    → Judges (record { size = c; nodes = map_node (λ l. take (c.n - 0) (drop 0 l)) x.nodes; edges = map_edge (λ l. take (c.m - 0) (drop 0 l)) x.edges }) j
-    → Judges (held_graph c x) j
-judged_held x c h = rw (sub-zero c.n, sub-zero c.m) at h
-
-pub held_by : {c : Size} {held : Lent} {i j : Judged} → i ≡ j → HeldJudged c held i → HeldJudged c held j
-held_by {c} {held} e h = subst (HeldJudged c held) e h
+-- room, by the lengths of slices
+pub room_says : (x : Lent) {a : PerNode ℕ} {b : PerEdge ℕ} {r : Bool} → a ≡ map_node length x.nodes → b ≡ map_edge length x.edges → Says (Ample a b) r → Says (Room x) r
+room_says x {a} {b} {r} e f s =
+    says_same (subst (λ y. Says (Ample (map_node length x.nodes) y) r) f (subst (λ y. Says (Ample y b) r) e s)) (λ h. record { nodes = h.0; edges = h.1 }) (λ k. (k.nodes, k.edges))
 
 pub held_judges : {c : Size} {held : Lent} {j : Judged} → Room held → HeldJudged c held j → Judges (held_graph c held) j
 held_judges r (bare d) = absurd (d r)
@@ -35,9 +32,8 @@ pub record Fine (c : Size) (held : Lent) : Type 0 where
   pub room : Room held
   pub ranges : Ranges c
 
-pub held_fine : {c : Size} {held : Lent} {i : Judged} → i ≡ (Ok tt) → HeldJudged c held i → Fine c held
-held_fine e (bare d) = let z : ◌≡◌ {A = ℕ} 0 1 = cc in absurd (omega arith)
-held_fine {c} {held} e (judged r j) = record { room = r; ranges = (accepted_is (subst (Judges (held_graph c held)) e j)).shape.ranges }
+pub held_fine : {c : Size} {held : Lent} → HeldJudged c held (Ok tt) → Fine c held
+held_fine (judged r j) = record { room = r; ranges = (accepted_is j).shape.ranges }
 
 -- counts out of range are refused as the graph's own check refuses them
 pub range_refuses : (c : Size) (x : Lent) → (Ranges c → ⊥) → Judges (held_graph c x) (Err why.Shape)
@@ -89,8 +85,8 @@ held_one (bare d) (judged r j) = absurd (d r)
 held_one (judged r j) (bare d) = absurd (d r)
 held_one {c} {held} (judged r j) (judged s i) = judges_one (held_graph c held) j i
 
-never_both : {r : Refusal} → Err r ≡ (Ok tt) → ⊥
-never_both e = let z : ◌≡◌ {A = ℕ} 0 1 = cc in omega arith
+never_both : {r : Refusal} → ◌≡◌ {A = Judged} (Err r) (Ok tt) → ⊥
+never_both e = cc
 
 pub hands_over_one : {c : Size} {held before x y : Lent} {a b : Judged} → HandsOver c held before a x → HandsOver c held before b y → (a ≡ b) × (x ≡ y)
 hands_over_one (cramped d) (cramped e) = (refl, refl)

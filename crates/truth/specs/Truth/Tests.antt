@@ -1,5 +1,5 @@
 -- Laws of tests and searches.
-use Rattle.std.specs.Prelude.{ℕ, zero, suc, ◌+◌, ◌≤◌, ◌<◌, Bool, true, false, cond, not, ◌&&◌, ◌||◌, ◌≡◌, refl, ◌⊎◌, leb, ltb, eqb, Option, Some, None, MatchOption}
+use Rattle.std.specs.Prelude.{ℕ, zero, suc, ◌+◌, ◌≤◌, ◌<◌, Bool, true, false, cond, not, ◌&&◌, ◌||◌, ◌≡◌, refl, ◌⊎◌, leb, ltb, eqb, Option, Some, None}
 use Rattle.std.proofs.Common.{subst, ap, inl, inr, ⊎_elim, arith, below_more, leb-true, leb-false, ltb-true, ltb-false, eqb-true}
 use Rattle.std.proofs.Math.Logic.{dite}
 use Rattle.std.proofs.Math.Decide.{dec_lt}
@@ -152,8 +152,3 @@ finds_one (found h f) (found k g) = ap Some (first_one f g)
 -- a search that stops at r, having come there
 pub stops_at : {P : ℕ → Type 0} {n r : ℕ} → All P r → r < n → (P r → ⊥) → Finds P n (Some r)
 stops_at a h d = found h (record { within = omega arith; before = a; broken = λ _. d })
-
--- what `find` of a range gives
-pub finds_range : {P : ℕ → Type 0} {n : ℕ} {a : Option ℕ} → MatchOption a ((k : ℕ) → 0 ≤ k → k < n → P k) (λ r. (0 ≤ r) × (r < n) × (P r → ⊥) × ((k : ℕ) → 0 ≤ k → k < r → P k)) → Finds P n a
-finds_range {a = None} h = nowhere (λ k l. h k (omega arith) l)
-finds_range {a = Some r} (_, l, d, b) = stops_at (λ k l. b k (omega arith) l) l d

@@ -59,9 +59,9 @@ pub record Put (d st : List ℕ) (top b : ℕ) (new : Bool) (d' st' : List ℕ) 
   pub height : top' ≡ cond new (top + 1) top
 
 -- the node on top is taken off, and its mark with it; none is where the stack is empty, or ends below its top
-pub data Takes (d st : List ℕ) : (top : ℕ) → Option ℕ → (d' st' : List ℕ) (top' : ℕ) → Type 0 where
-  taken : {t : ℕ} → t < length st → Takes d st (t + 1) (Some (get_or st t 0)) (set d (get_or st t 0) 0) st t
-  untaken : {top : ℕ} → ((t : ℕ) → top ≡ t + 1 → t < length st → ⊥) → Takes d st top None d st top
+pub data Takes (d st : List ℕ) (top : ℕ) : Option ℕ → (d' st' : List ℕ) (top' : ℕ) → Type 0 where
+  taken : {t : ℕ} → top ≡ t + 1 → t < length st → Takes d st top (Some (get_or st t 0)) (set d (get_or st t 0) 0) st t
+  untaken : ((t : ℕ) → top ≡ t + 1 → t < length st → ⊥) → Takes d st top None d st top
 
 -- the nodes below n, the first on top; i of them are written
 unfoldable pub count_down : (n : ℕ) (st : List ℕ) (i : ℕ) → List ℕ

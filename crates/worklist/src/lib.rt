@@ -38,8 +38,9 @@ impl EdgeLists<'_> {
     fn can_link(&self, froms: &[u16]) -> bool
         ensures { Says (Linkable froms.now (length self.now.head.now) (length self.now.prev.now)) result }
     {
-        let few = froms.len() <= LARGEST;
-        few && froms.len() <= self.prev.len() && all_below(froms, self.head.len())
+        froms.len() <= LARGEST
+            && froms.len() <= self.prev.len()
+            && all_below(froms, self.head.len())
     }
 
     fn link_all(&mut self, froms: &[u16])
@@ -97,7 +98,10 @@ impl Pending<'_> {
         ensures { Takes self.old.marks.now self.old.stack.now self.old.top result self.new.marks.now self.new.stack.now self.new.top }
     {
         let top = self.top.checked_sub(1)?;
-        let node = *self.stack.get(top)? as usize;
+        if self.stack.len() <= top {
+            return None;
+        }
+        let node = self.stack[top] as usize;
         if node < self.marks.len() {
             self.marks[node] = 0;
         }

@@ -6,6 +6,6 @@ pub returns-then-privileged-eq-MARKED : goal.returns-then-privileged-eq-MARKED
 unfolding call_num
 returns-then-privileged-eq-MARKED c = rw (eq-eqb _ 1 c.if-privileged-eq-MARKED.true)
 
-pub returns : goal.returns
+pub returns-else-privileged-eq-MARKED : goal.returns-else-privileged-eq-MARKED
 unfolding call_num
-returns c = rw (ne_eqb _ 1 c.if-privileged-eq-MARKED.false)
+returns-else-privileged-eq-MARKED c = rw (ne_eqb _ 1 c.if-privileged-eq-MARKED.false)

@@ -6,6 +6,6 @@ pub returns-then-way-eq-CALL : goal.returns-then-way-eq-CALL
 unfolding edge_num
 returns-then-way-eq-CALL c = rw (eq-eqb _ 0 c.if-way-eq-CALL.true) c.common.ensures
 
-pub returns : goal.returns
+pub returns-else-way-eq-CALL : goal.returns-else-way-eq-CALL
 unfolding edge_num
-returns c = rw (ne_eqb _ 0 c.if-way-eq-CALL.false)
+returns-else-way-eq-CALL c = rw (ne_eqb _ 0 c.if-way-eq-CALL.false)

@@ -6,6 +6,6 @@ pub returns-then-entry-eq-MARKED : goal.returns-then-entry-eq-MARKED
 unfolding start_ins
 returns-then-entry-eq-MARKED c = rw (eq-eqb _ 1 c.if-entry-eq-MARKED.true)
 
-pub returns : goal.returns
+pub returns-else-entry-eq-MARKED : goal.returns-else-entry-eq-MARKED
 unfolding start_ins
-returns c = rw (ne_eqb _ 1 c.if-entry-eq-MARKED.false) c.start.ensures
+returns-else-entry-eq-MARKED c = rw (ne_eqb _ 1 c.if-entry-eq-MARKED.false) c.start.ensures

@@ -1,10 +1,10 @@
 use Rattle.flow.specs.Walk.{judged_num}
 use Rattle.flow.proofs.judged.Goals as goal
 
-pub returns-then-sure : goal.returns-then-sure
+pub returns-in-May : goal.returns-in-May
 unfolding judged_num
-returns-then-sure c = rw c.if-sure.true
+returns-in-May c = rw c.in-May.is
 
-pub returns : goal.returns
+pub returns-in-Sure : goal.returns-in-Sure
 unfolding judged_num
-returns c = rw c.if-sure.false
+returns-in-Sure c = rw c.in-Sure.is

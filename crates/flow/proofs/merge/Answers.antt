@@ -1,10 +1,10 @@
 use Rattle.flow.specs.Walk.{merge}
 use Rattle.flow.proofs.merge.Goals as goal
 
-pub returns-then-sure : goal.returns-then-sure
+pub returns-in-May : goal.returns-in-May
 unfolding merge
-returns-then-sure c = rw c.if-sure.true c.common.ensures
+returns-in-May c = rw c.in-May.is c.join.ensures
 
-pub returns : goal.returns
+pub returns-in-Sure : goal.returns-in-Sure
 unfolding merge
-returns c = rw c.if-sure.false c.join.ensures
+returns-in-Sure c = rw c.in-Sure.is c.common.ensures

@@ -3,14 +3,14 @@ use mathlib.Core.Path.{sym, ◌∙◌}
 use Rattle.sets.specs.Sets.Code.{empty_code}
 use Rattle.flow.proofs.passed.Goals as goal
 
-pub returns-then-not-sure : goal.returns-then-not-sure
+pub returns-in-May : goal.returns-in-May
 unfolding past_num
-returns-then-not-sure c = rw c.if-not-sure.true
+returns-in-May c = rw c.in-May.is
 
-pub returns-then-has : goal.returns-then-has
+pub returns-in-Sure : goal.returns-in-Sure
 unfolding past_num
-returns-then-has c = rw (c.if-not-sure.false, sym c.has.ensures ∙ c.if-has.true) c.add.ensures
+returns-in-Sure c = rw (c.in-Sure.is, sym c.has.ensures ∙ c.if-has.true) c.add.ensures
 
-pub returns : goal.returns
+pub returns-in-Sure-2 : goal.returns-in-Sure-2
 unfolding past_num
-returns c = rw (c.if-not-sure.false, sym c.has.ensures ∙ c.if-has.false) (sym empty_code)
+returns-in-Sure-2 c = rw (c.in-Sure-2.is, sym c.has.ensures ∙ c.if-has.false) (sym empty_code)

@@ -3,10 +3,10 @@ use mathlib.Core.Path.{sym}
 use Rattle.sets.specs.Sets.Code.{empty_code}
 use Rattle.flow.proofs.start.Goals as goal
 
-pub returns-then-sure : goal.returns-then-sure
+pub returns-in-May : goal.returns-in-May
 unfolding start
-returns-then-sure c = rw c.if-sure.true c.all.ensures
+returns-in-May c = rw c.in-May.is (sym empty_code)
 
-pub returns : goal.returns
+pub returns-in-Sure : goal.returns-in-Sure
 unfolding start
-returns c = rw c.if-sure.false (sym empty_code)
+returns-in-Sure c = rw c.in-Sure.is c.all.ensures

@@ -1,10 +1,11 @@
 -- What the stack's steps do, and what they keep.
-use Rattle.std.specs.Prelude.{◌≡◌, refl, List, [], ◌∷◌, Bool, true, false, ℕ, zero, suc, ◌+◌, ◌-◌, ◌≤◌, ◌<◌, eqb, leb, ltb, length, get_or, set}
-use Rattle.std.proofs.Common.{sym, ap, ◌∙◌, not-suc-le-zero, le_of_suc-le-suc, add-one, arith, length-set, get_or-set_same, get_or-set_other, below_none, eqb-true, eq-eqb, ne_eqb, lt-ltb, le-ltb, le-leb}
+use Rattle.std.specs.Prelude.{◌≡◌, refl, List, [], ◌∷◌, Bool, true, false, ℕ, zero, suc, ◌+◌, ◌-◌, ◌≤◌, ◌<◌, eqb, leb, ltb, length, get_or, set, Option, Some}
+use Rattle.std.proofs.Math.Seq.{set_out}
+use Rattle.std.proofs.Common.{sym, ap, subst, ◌∙◌, not-suc-le-zero, le_of_suc-le-suc, add-one, arith, length-set, get_or-set_same, get_or-set_other, below_none, eqb-true, eq-eqb, ne_eqb, lt-ltb, le-ltb, le-leb}
 use Rattle.std.proofs.Math.Decide.{ℕ_discrete}
 use Rattle.std.proofs.lemmas.Bool.{eqb-false, lt-leb}
 use Rattle.truth.specs.Truth.Bools.{by_split, both, left, right}
-use Rattle.worklist.specs.Worklist.{holds, fresh, Put, count_down, Fills, filled, kept, zeros, Stacked}
+use Rattle.worklist.specs.Worklist.{holds, fresh, Put, count_down, Fills, filled, kept, zeros, Stacked, Takes, taken, untaken}
 use Rattle.worklist.specs.Worklist.Filled.{set_more}
 
 -- ---- marks
@@ -60,6 +61,11 @@ take_stacked nodes d st t ld w = record {
         let r = w.marked m lm (λ z. h (get_or-set_other d (get_or st t 0) m 0 0 q ∙ z)) in
         let ne : r.0 ≡ t → ⊥ = λ e. q (sym r.2 ∙ ap (λ (x : ℕ). get_or st x 0) e) in
         (r.0, omega (arith, r.1, ne), r.2)
+
+-- a stack that has a place for each node on it is left only where it is empty
+pub untaken_empty : (nodes : ℕ) (d st : List ℕ) (top : ℕ) → Stacked nodes d st top → ((t : ℕ) → top ≡ t + 1 → t < length st → ⊥) → top ≡ 0
+untaken_empty nodes d st zero w h = refl
+untaken_empty nodes d st (suc t) w h = absurd (h t (sym (add-one t)) (omega (arith, w.free)))
 
 -- with an empty stack no node is marked
 pub none_stacked : (nodes : ℕ) (d st : List ℕ) → Stacked nodes d st 0 → (n : ℕ) → n < nodes → get_or d n 0 ≡ 0
@@ -134,6 +140,13 @@ pub fresh_unmarked : (d st : List ℕ) (top b : ℕ) (wanted : Bool) → fresh d
 fresh_unmarked d st top b wanted f =
     (left wanted _ f, eqb-true (get_or d b 0) 0 (right (holds d st top b) _ (right wanted _ f)))
 
+-- ---- what `take` does
+
+-- a node that has no mark is taken too
+pub taken_unmarked : (d st : List ℕ) (top t : ℕ) → top ≡ t + 1 → t < length st → length d ≤ get_or st t 0 → Takes d st top (Some (get_or st t 0)) d st t
+taken_unmarked d st top t e l h =
+    subst (λ (a : List ℕ). Takes d st top (Some (get_or st t 0)) a st t) (set_out d (get_or st t 0) 0 h) (taken e l)
+
 -- ---- what `fill` stores
 
 pub count_more : (n : ℕ) (st : List ℕ) (i : ℕ) → count_down n st (i + 1) ≡ set (count_down n st i) i (n - 1 - i)
@@ -161,6 +174,14 @@ fills_all n st h l (kept d) = absurd (d h l)
 
 pub put_one : {d st a b x y : List ℕ} {top n i j : ℕ} {new : Bool} → Put d st top n new a x i → Put d st top n new b y j → (a ≡ b) × (x ≡ y) × (i ≡ j)
 put_one f h = (f.marks ∙ sym h.marks, f.stack ∙ sym h.stack, f.height ∙ sym h.height)
+
+pub takes_one : {d st a b x y : List ℕ} {top i j : ℕ} {m n : Option ℕ} → Takes d st top m a x i → Takes d st top n b y j → (m ≡ n) × (a ≡ b) × (x ≡ y) × (i ≡ j)
+takes_one {d} {st} (taken {t} e l) (taken {t = u} f k) =
+    let z : t ≡ u = omega arith in
+    (ap (λ (i : ℕ). Some (get_or st i 0)) z, ap (λ (i : ℕ). set d (get_or st i 0) 0) z, refl, z)
+takes_one (taken e l) (untaken h) = absurd (h _ e l)
+takes_one (untaken h) (taken e l) = absurd (h _ e l)
+takes_one (untaken h) (untaken k) = (refl, refl, refl, refl)
 
 pub fills_one : {n : ℕ} {st a b : List ℕ} → Fills n st a → Fills n st b → a ≡ b
 fills_one (filled k l) (filled m o) = refl

@@ -1,14 +1,13 @@
 use Rattle.truth.specs.Truth.Tests.{says_true, says_false}
 use Rattle.worklist.specs.Worklist.{kept}
 use Rattle.worklist.specs.Worklist.Linking.{links_by}
-use Rattle.worklist.proofs.link.Goals as goal
-
-pub returns-then-not-can_link : goal.returns-then-not-can_link
-returns-then-not-can_link c = kept (says_false c.can_link.ensures c.if-not-can_link.true)
+use Rattle.worklist.proofs.EdgeLists.link.Goals as goal
 
 pub link_all-requires : goal.link_all-requires
-link_all-requires c = says_true c.can_link.ensures c.if-not-can_link.false
+link_all-requires c = says_true c.can_link-can.ensures c.if-can.true
 
-pub returns : goal.returns
-returns c =
-    links_by _ _ _ _ (says_true c.can_link.ensures c.if-not-can_link.false) c.link_all.ensures
+pub returns-then-can : goal.returns-then-can
+returns-then-can c = rw c.if-can.true (links_by _ _ _ _ (says_true c.can_link-can.ensures c.if-can.true) c.link_all.ensures)
+
+pub returns-else-can : goal.returns-else-can
+returns-else-can c = rw c.if-can.false (kept (says_false c.can_link-can.ensures c.if-can.false))

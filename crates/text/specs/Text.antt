@@ -1,23 +1,24 @@
 -- What a text means, and what the reader answers and stores. Definitions alone.
 pub mod Kept
 pub mod Parts
-pub mod Slots
+pub mod Puts
 pub mod Ends
 pub mod Laws
 pub mod Gateway
-use Rattle.std.specs.Prelude.{ℕ, zero, suc, ◌+◌, ◌≡◌, List, [], ◌∷◌, map, cond, length, ltb}
+use Rattle.std.specs.Prelude.{ℕ, zero, suc, ◌+◌, ◌≡◌, List, [], ◌∷◌, map, cond, length, ltb, Option, Some, None, Result, Ok, Err}
 use Rattle.graph.specs.Graph.{Graph, size_of, PerNode, PerEdge, nodes_of, edges_of}
 use Rattle.graph.specs.Refusals.{Numbered, ◌at◌, numbered}
 use Rattle.graph.specs.Judge.{judge}
 use Rattle.graph.specs.declared.Refusal.{Refusal}
 use Rattle.graph.specs.Refusals.{Judged}
-use Rattle.std.specs.Prelude.{Result, Ok, Err}
 use Rattle.graph.specs.declared.Node.{Node}
 use Rattle.graph.specs.declared.Edge.{Edge}
 use Rattle.graph.specs.declared.Size.{Size}
 use Rattle.extent.specs.Extent.{most_bytes}
 use Rattle.handover.specs.Handover.{Lent, roomy, NodesWritten, EdgesWritten}
-use Rattle.records.specs.Records.{Got, got, no, on_got, header_at, node_at, edge_at}
+use Rattle.scan.specs.declared.At.{At}
+use Rattle.scan.specs.Scan.{read_to}
+use Rattle.records.specs.Records.{header_at, node_at, edge_at}
 
 -- The size of the graph that was read, or why there is none.
 abbrev pub Reading : Type 0
@@ -26,24 +27,27 @@ Reading = Result Size Refusal
 -- ---- A text
 
 -- Rows that follow one another: what they say and where the text goes on after them; or the number of the first that is wrong.
-pub data Rows (X : Type 0) : Type 0 where
-  rows : List X → (next : ℕ) → Rows X
-  stop : (i : ℕ) → Rows X
+abbrev pub Rows : Type 0 → Type 0
+Rows X = Result (At (List X)) ℕ
+
+abbrev pub on_row : {X Y : Type 0} → Option (At X) → Y → (X → (next : ℕ) → Y) → Y
+on_row (Some x) a f = f x.value x.next
+on_row None a f = a
 
 abbrev pub onto : {X : Type 0} → X → Rows X → Rows X
-onto x (rows xs next) = rows (x ∷ xs) next
-onto x (stop i) = stop i
+onto x (Ok xs) = Ok (read_to (x ∷ xs.value) xs.next)
+onto x (Err i) = Err i
 
 -- So many rows from a position on, the first with number i.
-unfoldable pub rows_at : {X : Type 0} → (row : (from i : ℕ) → Got X) → (count from i : ℕ) → Rows X
-rows_at row zero from i = rows [] from
-rows_at row (suc count) from i = on_got (row from i) (stop i) (λ x p. onto x (rows_at row count p (i + 1)))
+unfoldable pub rows_at : {X : Type 0} → (row : (from i : ℕ) → Option (At X)) → (count from i : ℕ) → Rows X
+rows_at row zero from i = Ok (read_to [] from)
+rows_at row (suc count) from i = on_row (row from i) (Err i) (λ x p. onto x (rows_at row count p (i + 1)))
 
-abbrev pub on_rows : {X Y : Type 0} → Rows X → (ℕ → Y) → (List X → ℕ → Y) → Y
-on_rows (rows xs next) f g = g xs next
-on_rows (stop i) f g = f i
+abbrev pub on_rows : {X Y : Type 0} → Rows X → (ℕ → Y) → (List X → (next : ℕ) → Y) → Y
+on_rows (Ok xs) f g = g xs.value xs.next
+on_rows (Err i) f g = f i
 
-abbrev pub edge_row : List ℕ → (from i : ℕ) → Got Edge
+abbrev pub edge_row : List ℕ → (from i : ℕ) → Option (At Edge)
 edge_row s from i = edge_at s from
 
 -- What a text says: K, its nodes and its edges; or which row is wrong, missing or extra.
@@ -54,7 +58,7 @@ pub data Meaning : Type 0 where
 -- The text from a position on, whose first row has this number: the first row, N node rows, M edge rows, and nothing after them.
 unfoldable pub text_at : List ℕ → (from row : ℕ) → Meaning
 text_at s from row =
-    on_got (header_at s from) (wrong row) (λ c p.
+    on_row (header_at s from) (wrong row) (λ c p.
     on_rows (rows_at (node_at s) c.n p 0) (λ i. wrong (row + 1 + i)) (λ nodes p.
     on_rows (rows_at (edge_row s) c.m p 0) (λ j. wrong (row + 1 + c.n + j)) (λ edges p.
     cond (ltb p (length s)) (wrong (row + 1 + c.n + c.m)) (says c.k nodes edges))))

@@ -1,63 +1,85 @@
 // Reads the graph of a text into the places that a caller lends.
 #![tactic(auto)]
 
-ghost use Rattle.std.specs.Prelude.{ℕ, List, ◌≡◌, ◌+◌, ◌<◌, ◌≤◌};
-ghost use Rattle.records.specs.Records.{Got};
-ghost use Rattle.handover.specs.Handover.{places, Room};
+ghost use Rattle.std.specs.Prelude.{ℕ, List, Option, ◌≡◌, ◌<◌, ◌≤◌};
+ghost use Rattle.graph.specs.declared.Node.{Node};
+ghost use Rattle.graph.specs.declared.Edge.{Edge};
+ghost use Rattle.scan.specs.declared.At.{At};
 ghost use Rattle.extent.specs.declared.NodeSlots.{NodeSlots};
 ghost use Rattle.extent.specs.declared.EdgeSlots.{EdgeSlots};
-ghost use Rattle.text.specs.Text.{on_meaning, text_at, reading_from, reading, Tells};
-ghost use Rattle.text.specs.Text.Parts.{slots, node_kept, edge_kept, RowKept, RowsKept, Parses};
+ghost use Rattle.handover.specs.Handover.{places, Room};
+ghost use Rattle.text.specs.Text.{edge_row, on_meaning, text_at, reading_from, reading, Tells};
+ghost use Rattle.text.specs.Text.Parts.{kept_row, node_put, edge_put, RowsRead, slots, Parses};
 
 use extent::{EdgeSlots, NodeSlots, Slots};
-use graph::{GraphPlaces, Refusal, Size};
+use graph::{Edge, GraphPlaces, Node, Refusal, Size};
 use scan::At;
 
-// Places for rows, the first of which has number 0.
+// Places for rows of a kind, the first of which has number 0.
 trait Rows {
-    // How many rows they have room for.
+    // What a row says.
+    type Row: Copy;
+
+    // How many there is room for.
     ghost most: { ℕ };
 
-    // What they hold when row i, read from a position on, is kept, and where the text goes on after it; or it is wrong.
-    ghost kept: { List ℕ → Self → (from i : ℕ) → Got Self };
+    // What row i says, read from a position on, and where the text goes on after it.
+    ghost row: { List ℕ → (from i : ℕ) → Option (At Self.Row) };
 
-    // Reads row i, and keeps what it says.
-    fn read_row(&mut self, s: &[u8], from: usize, i: usize) -> Option<usize>
+    // What the places hold after it is put there.
+    ghost put: { Self → (i : ℕ) → Self.Row → Self };
+
+    fn read_row(s: &[u8], from: usize, i: usize) -> Option<At<Self::Row>>
+        ensures { result ≡ row s.now from i };
+
+    fn put_row(&mut self, i: usize, row: Self::Row)
         requires { i < most }
-        ensures { RowKept (kept s.now self.old from i) self.old result self.new };
+        ensures { self.new ≡ put self.old i row };
 }
 
 impl Rows for NodeSlots {
+    type Row = Node;
+
     ghost most = { 1024 };
 
-    ghost kept = { node_kept };
+    ghost row = { kept_row };
 
-    fn read_row(&mut self, s: &[u8], from: usize, i: usize) -> Option<usize> {
-        let At { value: node, next } = shortcuts::read_node(s, from, i)?;
-        self.kinds[i] = node.kind;
-        self.checks[i] = node.check;
-        self.privileged[i] = node.privileged;
-        self.entries[i] = node.entry;
-        self.grants[i] = node.grants;
-        Some(next)
+    ghost put = { node_put };
+
+    fn read_row(s: &[u8], from: usize, i: usize) -> Option<At<Node>> {
+        shortcuts::read_node(s, from, i)
+    }
+
+    fn put_row(&mut self, i: usize, row: Node) {
+        self.kinds[i] = row.kind;
+        self.checks[i] = row.check;
+        self.privileged[i] = row.privileged;
+        self.entries[i] = row.entry;
+        self.grants[i] = row.grants;
     }
 }
 
 impl Rows for EdgeSlots {
+    type Row = Edge;
+
     ghost most = { 4096 };
 
-    ghost kept = { edge_kept };
+    ghost row = { edge_row };
 
-    fn read_row(&mut self, s: &[u8], from: usize, i: usize) -> Option<usize> {
-        let At { value: edge, next } = shortcuts::read_edge(s, from)?;
-        self.froms[i] = edge.from;
-        self.tos[i] = edge.to;
-        self.ways[i] = edge.way;
-        Some(next)
+    ghost put = { edge_put };
+
+    fn read_row(s: &[u8], from: usize, _i: usize) -> Option<At<Edge>> {
+        shortcuts::read_edge(s, from)
+    }
+
+    fn put_row(&mut self, i: usize, row: Edge) {
+        self.froms[i] = row.from;
+        self.tos[i] = row.to;
+        self.ways[i] = row.way;
     }
 }
 
-// Reads so many rows, the first of which has this number in the text, and keeps what they say.
+// Reads so many rows, the first of which has this number in the text, and puts what they say where it belongs.
 fn read_rows<R: Rows>(
     rows: &mut R,
     s: &[u8],
@@ -66,15 +88,16 @@ fn read_rows<R: Rows>(
     count: usize,
 ) -> Result<usize, Refusal>
     requires numbered { first ≤ 4294968320 }
-    requires room { count ≤ R.most }
     requires few { count ≤ 4096 }
-    ensures { RowsKept (R.kept s.now) first count from rows.old result rows.new }
+    requires room { count ≤ R.most }
+    ensures { RowsRead (R.row s.now) R.put from first count rows.old result rows.new }
 {
     let mut at = from;
     for i in 0..count {
-        let Some(next) = rows.read_row(s, at, i) else {
+        let Some(At { value, next }) = R::read_row(s, at, i) else {
             return Err(Refusal::Row(first + i));
         };
+        rows.put_row(i, value);
         at = next;
     }
     Ok(at)

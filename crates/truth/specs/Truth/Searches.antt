@@ -1,19 +1,20 @@
 -- What std's searches answer: `find` and `any` over the numbers below n, `all` over a slice. Of the closure each asks what it says of one item.
-use Rattle.std.specs.Prelude.{ℕ, ◌≤◌, ◌<◌, Bool, true, false, ◌≡◌, List, length, get_or, Option, Some, None, MatchOption, MatchBool, ⊤}
+use Rattle.std.specs.Prelude.{ℕ, ◌≤◌, ◌<◌, Bool, true, false, ◌≡◌, List, length, get_or, take, Option, Some, None, MatchOption, MatchBool, ⊤}
 use Rattle.std.specs.Fn.{Called, CalledAt}
 use Rattle.std.specs.Iterator.{YieldsThen}
 use Rattle.std.specs.List.{FoldsTo, range_with_len, AllWithin, HoldsAt}
 use Rattle.std.specs.Slice.Iter.{iter_rest}
 use Rattle.std.specs.declared.slice.Iter.{Iter}
 use Rattle.std.specs.declared.ops.Range.{Range}
-use Rattle.std.proofs.Common.{subst, arith, refl}
+use Rattle.std.proofs.Common.{subst, sym, arith, refl, length-take}
+use Rattle.std.proofs.lemmas.List.{get_or-take}
 use Rattle.std.proofs.iter.Yields.{fronts, nat_range_steps}
 use Rattle.std.proofs.lemmas.Iterator.{YieldsList-from_range, YieldsList-from_slice, cases_from_all, cases_from_any, first_from_Range}
 use Rattle.std.proofs.lemmas.List.FromFn.{length-range_with_len, get_or-range_with_len}
 use denote.Param.Members.{Mut}
 use denote.Ref.{Bor}
 use Rattle.truth.specs.Truth.{Says, holds, fails, All, Finds, nowhere}
-use Rattle.truth.specs.Truth.Tests.{stops_at}
+use Rattle.truth.specs.Truth.Tests.{says_same, stops_at}
 
 -- the numbers below n, as the code writes them
 abbrev pub below : ℕ → Range ℕ
@@ -56,3 +57,11 @@ all_of P {xs} u f {r} rest ran t e = by r (cases_from_all u f r P (λ x. P x →
     by : (r : Bool) → MatchBool r (AllWithin P xs 0 (length xs)) ((k : ℕ) × (k < length xs) × HoldsAt (λ x. P x → ⊥) xs k) → Says (All (λ i. P (get_or xs i 0)) (length xs)) r
     by true h = holds (λ i l. h i 0 (omega arith) l)
     by false (k, l, d) = fails (λ a. d 0 (a k l))
+
+-- of the first n places of a slice, as `s[..n]`
+pub all_front : (P : ℕ → Type 0) (xs : List ℕ) {n : ℕ} {r : Bool} → n ≤ length xs → Says (All (λ i. P (get_or (take n xs) i 0)) (length (take n xs))) r → Says (All (λ i. P (get_or xs i 0)) n) r
+all_front P xs {n} h s =
+    let long : length (take n xs) ≡ n = omega (arith, length-take {A = ℕ}) in
+    says_same s
+    (λ a i l. subst P (get_or-take n xs i 0 l) (a i (omega (arith, long))))
+    (λ a i l. subst P (sym (get_or-take n xs i 0 (omega (arith, long)))) (a i (omega (arith, long))))

@@ -1,18 +1,19 @@
 // The solver: for every node what is surely denied and surely granted, by the two equation systems.
 #![tactic(auto)]
 
-ghost use Rattle.std.specs.Prelude.{◌≡◌, ℕ, ◌+◌, ◌-◌, ◌≤◌, ◌<◌, false, length, get_or};
-ghost use Rattle.graph.specs.Graph.{graph_of, size_of, Acceptable, Content, ResultsLong};
-ghost use Rattle.worklist.specs.Worklist.{Linked};
-ghost use Rattle.flow.specs.Walk.{system_of, counts_num, state, arrive, send_from, Bringable, Brings, Sendable, LeavesAt, NodesStored, Setting, Walking};
-ghost use Rattle.flow.specs.Walk.Settled.{Settled};
-ghost use Rattle.graph.specs.Lent.{lent};
-ghost use Rattle.solver.specs.Solve.{stored, Solves};
+ghost use Rattle.std.specs.Prelude.{◌≡◌, ◌≤◌, ◌<◌, length, get_or};
+ghost use Rattle.graph.specs.Graph.{node_at, Shape, Acceptable, Content};
+ghost use Rattle.graph.specs.Lent.{lent, node_numbers};
+ghost use Rattle.flow.specs.Walk.{system_of, counts_num, arrive};
+ghost use Rattle.solver.specs.Solve.{Long, stored, Solves};
+ghost use Rattle.solver.specs.Walks.{Walkable, HasSums, Leaves, Brings, state_of, sent, Walks, Settles, Carries, NodesStored};
 
-use flow::Leaving;
-use graph::{LentGraph, Refusal, Size};
+use flow::{Arrived, Leaving, System};
+use graph::{LentGraph, Node, Refusal};
+use sums::Sums;
+use worklist::{EdgeLists, Pending};
 
-// The slices that a caller lends to be written: a set for each node, denied and granted, and for each edge, what it carries.
+// The slices that a caller lends to be written: what is denied and granted at each node, and what each edge carries by MAY and by SURE.
 #[derive(Drop)]
 pub struct SetPlaces<'a> {
     pub denied: &'a mut [u64],
@@ -21,342 +22,216 @@ pub struct SetPlaces<'a> {
     pub sure: &'a mut [u64],
 }
 
-// Whether the set v of edge e counts at the node that it arrives at. Most nodes are no checks, and MAY judges a set by itself: there
-// `wide` is not read.
-fn counts_at(sure: bool, kind: u8, check: u16, wide: &[u64], e: usize, v: u64) -> bool
-    requires { e < length wide.now }
-    ensures { result ≡ counts_num (system_of sure) kind check (get_or wide.now e 0) v }
-{
-    if kind != graph::KIND_CHECK {
-        return false;
-    }
-    if sure {
-        return flow::counts(sure, kind, check, wide[e], v);
-    }
-    flow::counts(sure, kind, check, 0, v)
+// What a walk goes over: a graph, the lists of its edges, and what MAY left of it, the out sets of the edges and the sums of what passes each
+// check. MAY itself looks at neither.
+#[derive(Clone, Copy)]
+struct Ground<'a, 'b> {
+    system: System,
+    graph: LentGraph<'a>,
+    lists: &'a EdgeLists<'b>,
+    wide: &'a [u64],
+    any: &'a [u64],
 }
 
 // What an edge brings: to which node, which set, and whether it counts there.
-#[derive(Drop)]
+#[derive(Clone, Copy)]
 struct Brought {
     to: usize,
     set: u64,
     counted: bool,
 }
 
-// What edge e brings from a node with the call set `call` and the trans set `trans`.
-fn bring(
-    sure: bool,
-    call: u64,
-    trans: u64,
-    e: usize,
-    kinds: &[u8],
-    checks: &[u16],
-    grants: &[u64],
-    tos: &[u16],
-    ways: &[u8],
-    wide: &[u64],
-) -> Brought
-    requires { Bringable kinds.now checks.now grants.now tos.now ways.now wide.now e }
-    ensures { Brings kinds.now checks.now grants.now tos.now ways.now (system_of sure) wide.now call trans e result.to result.set result.counted }
-{
-    let to = tos[e] as usize;
-    let set = flow::carry(ways[e], call, trans, grants[to]);
-    let counted = counts_at(sure, kinds[to], checks[to], wide, e, set);
-    Brought {
-        to: to,
-        set: set,
-        counted: counted,
+impl Ground<'_, '_> {
+    fn node(&self, i: usize) -> Node
+        requires walkable { Walkable self.now }
+        requires i_in_bounds { i < self.now.graph.size.n }
+        ensures { node_numbers result ≡ node_at (lent self.now.graph).nodes i }
+    {
+        let nodes = &self.graph.nodes;
+        Node {
+            kind: nodes.kinds[i],
+            check: nodes.checks[i],
+            privileged: nodes.privileged[i],
+            entry: nodes.entries[i],
+            grants: nodes.grants[i],
+        }
+    }
+
+    // Whether the set v of edge e counts at the node that it arrives at. Most nodes are no checks, and MAY judges a set by itself: there
+    // `wide` is not read.
+    fn counts_at(&self, node: Node, e: usize, v: u64) -> bool
+        requires { e < length self.now.wide.now }
+        ensures { result ≡ counts_num (system_of self.now.system) node.kind node.check (get_or self.now.wide.now e 0) v }
+    {
+        if node.kind != graph::KIND_CHECK {
+            return false;
+        }
+        let wide = match self.system {
+            System::May => v,
+            System::Sure => self.wide[e],
+        };
+        flow::counts(self.system, node.kind, node.check, wide, v)
+    }
+
+    // What edge e brings of what leaves its from node.
+    fn bring(&self, leaving: Leaving, e: usize) -> Brought
+        requires walkable { Walkable self.now }
+        requires e_in_bounds { e < self.now.graph.size.m }
+        ensures { Brings self.now leaving e result }
+    {
+        let to = usize::from(self.graph.edges.tos[e]);
+        let node = self.node(to);
+        let set = flow::carry(self.graph.edges.ways[e], leaving, node.grants);
+        Brought {
+            to,
+            set,
+            counted: self.counts_at(node, e, set),
+        }
+    }
+
+    // What leaves node i.
+    fn leave(&self, sums: &Sums, i: usize) -> Leaving
+        requires walkable { Walkable self.now }
+        requires sums { HasSums self.now.graph.size.n sums.now }
+        requires i_in_bounds { i < self.now.graph.size.n }
+        ensures { Leaves self.now sums.now i result }
+    {
+        let arrived = Arrived {
+            all: sums.ins[i],
+            past: sums.past[i],
+            any: self.any[i],
+        };
+        flow::leave(self.system, self.node(i), arrived)
     }
 }
 
-// A set arrives at node b, which goes on the stack where that changed a sum of it. The stack's new height.
-fn arrive(
-    ins: &mut [u64],
-    past: &mut [u64],
-    marks: &mut [u8],
-    stack: &mut [u16],
-    sure: bool,
-    b: usize,
-    v: u64,
-    counted: bool,
-    top: usize,
-) -> usize
-    requires { (b < length ins.old) × (b < length past.old) }
-    ensures { state ins.new past.new marks.new stack.new result ≡ arrive (system_of sure) (state ins.old past.old marks.old stack.old top) b v counted }
+// A set arrives at a node, which goes on the stack where that changed a sum of it.
+fn arrive(sums: &mut Sums, pending: &mut Pending, system: System, x: Brought)
+    requires { (x.to < length sums.old.ins.now) × (x.to < length sums.old.past.now) }
+    ensures { state_of sums.new pending.new ≡ arrive (system_of system) (state_of sums.old pending.old) x.to x.set x.counted }
 {
-    let changed = sums::deliver(ins, past, sure, b, v, counted);
-    worklist::put(marks, stack, b, changed, top)
+    let changed = sums.deliver(system, x.to, x.set, x.counted);
+    pending.put(x.to, changed);
 }
 
-// What a node's call and trans sets bring to the nodes at the other ends of its edges, which start before `first`. The stack's new height.
-fn send(
-    ins: &mut [u64],
-    past: &mut [u64],
-    marks: &mut [u8],
-    stack: &mut [u16],
-    sure: bool,
-    call: u64,
-    trans: u64,
-    first: u16,
-    top: usize,
-    kinds: &[u8],
-    checks: &[u16],
-    grants: &[u64],
-    tos: &[u16],
-    ways: &[u8],
-    wide: &[u64],
-    prev: &[u16],
-) -> usize
-    requires sendable { Sendable kinds.now checks.now grants.now tos.now ways.now wide.now prev.now (length ins.old) (length past.old) }
-    requires first_in_bounds { first ≤ length tos.now }
-    ensures { state ins.new past.new marks.new stack.new result ≡ send_from kinds.now checks.now grants.now tos.now ways.now (system_of sure) wide.now prev.now call trans first first (state ins.old past.old marks.old stack.old top) }
+// What leaves a node is brought to the nodes at the other ends of its edges, which start before `first`.
+fn send(sums: &mut Sums, pending: &mut Pending, ground: &Ground, leaving: Leaving, first: u16)
+    requires walkable { Walkable ground.now }
+    requires sums { HasSums ground.now.graph.size.n sums.old }
+    requires first_in_bounds { first ≤ ground.now.graph.size.m }
+    ensures { state_of sums.new pending.new ≡ sent ground.now leaving first (state_of sums.old pending.old) }
 {
-    let mut t = top;
-    let mut cur = first as usize;
-    while cur != 0 {
-        let e = cur - 1;
-        let x = bring(sure, call, trans, e, kinds, checks, grants, tos, ways, wide);
-        t = arrive(ins, past, marks, stack, sure, x.to, x.set, x.counted, t);
-        cur = prev[e] as usize;
-    }
-    t
-}
-
-// What leaves node i.
-fn leave(
-    sure: bool,
-    i: usize,
-    kinds: &[u8],
-    checks: &[u16],
-    privileged: &[u8],
-    grants: &[u64],
-    any: &[u64],
-    ins: &[u64],
-    past: &[u64],
-) -> Leaving
-    requires node { (i < length kinds.now) × (i < length checks.now) × (i < length privileged.now) × (i < length grants.now) }
-    requires sums { (i < length any.now) × (i < length ins.now) × (i < length past.now) }
-    ensures { LeavesAt kinds.now checks.now privileged.now grants.now (system_of sure) any.now ins.now past.now i result.call result.trans }
-{
-    flow::leave(
-        sure,
-        kinds[i],
-        checks[i],
-        privileged[i],
-        grants[i],
-        ins[i],
-        past[i],
-        any[i],
-    )
-}
-
-// The denied and granted sets of all nodes, from the sums of both systems.
-fn store_nodes(
-    denied: &mut [u64],
-    granted: &mut [u64],
-    k: usize,
-    n: usize,
-    privileged: &[u8],
-    grants: &[u64],
-    may_ins: &[u64],
-    sure_ins: &[u64],
-)
-    requires { (n ≤ length denied.old) × (n ≤ length granted.old) × (n ≤ length privileged.now) × (n ≤ length grants.now) × (n ≤ length may_ins.now) × (n ≤ length sure_ins.now) }
-    ensures { NodesStored k n privileged.now grants.now may_ins.now sure_ins.now denied.new granted.new }
-{
-    let mut i = 0;
-    while i < n {
-        let mark = privileged[i];
-        let own = grants[i];
-        denied[i] = flow::deny(k, mark, own, may_ins[i]);
-        granted[i] = flow::called(mark, own, sure_ins[i]);
-        i += 1;
+    let mut next = usize::from(first);
+    while let Some(e) = next.checked_sub(1) {
+        arrive(sums, pending, ground.system, ground.bring(leaving, e));
+        next = usize::from(ground.lists.prev[e]);
     }
 }
 
 // Takes nodes from the stack and tells their edges, until there is none: a node is taken up again only after one of its sums changed.
-fn walk(
-    ins: &mut [u64],
-    past: &mut [u64],
-    marks: &mut [u8],
-    stack: &mut [u16],
-    sure: bool,
-    k: usize,
-    n: usize,
-    m: usize,
-    kinds: &[u8],
-    checks: &[u16],
-    privileged: &[u8],
-    entries: &[u8],
-    grants: &[u64],
-    froms: &[u16],
-    tos: &[u16],
-    ways: &[u8],
-    wide: &[u64],
-    any: &[u64],
-    head: &[u16],
-    prev: &[u16],
-)
-    requires setting { Setting (graph_of (size_of k n m) kinds.now checks.now privileged.now entries.now grants.now froms.now tos.now ways.now) (system_of sure) wide.now any.now }
-    requires walking { Walking (graph_of (size_of k n m) kinds.now checks.now privileged.now entries.now grants.now froms.now tos.now ways.now) (system_of sure) wide.now any.now (state ins.old past.old marks.old stack.old n) }
-    requires linked { Linked froms.now n head.now prev.now m }
-    requires lengths { (m ≤ length wide.now) × (n ≤ length any.now) × (n ≤ length head.now) × (m ≤ length prev.now) }
-    ensures { Walking (graph_of (size_of k n m) kinds.now checks.now privileged.now entries.now grants.now froms.now tos.now ways.now) (system_of sure) wide.now any.now (state ins.new past.new marks.new stack.new 0) }
+fn walk(sums: &mut Sums, pending: &mut Pending, ground: &Ground)
+    requires walkable { Walkable ground.now }
+    requires walking { Walks ground.now (state_of sums.old pending.old) }
+    ensures walking { Walks ground.now (state_of sums.new pending.new) }
+    ensures empty { pending.new.top ≡ 0 }
 {
-    let mut top = n;
-    while 0 < top {
-        let t = top - 1;
-        let i = stack[t] as usize;
-        marks[i] = 0;
-        let x = leave(sure, i, kinds, checks, privileged, grants, any, ins, past);
-        top = send(
-            ins, past, marks, stack, sure, x.call, x.trans, head[i], t, kinds, checks, grants, tos,
-            ways, wide, prev,
-        );
+    while let Some(i) = pending.take() {
+        let leaving = ground.leave(sums, i);
+        send(sums, pending, ground, leaving, ground.lists.head[i]);
     }
 }
 
-// One system: the sums of its nodes, and the out sets of its edges.
-fn run(
-    ins: &mut [u64; graph::MOST_NODES],
-    past: &mut [u64; graph::MOST_NODES],
-    out: &mut [u64],
-    sure: bool,
-    size: Size,
-    kinds: &[u8],
-    checks: &[u16],
-    privileged: &[u8],
-    entries: &[u8],
-    grants: &[u64],
-    froms: &[u16],
-    tos: &[u16],
-    ways: &[u8],
-    wide: &[u64],
-    any: &[u64],
-    head: &[u16],
-    prev: &[u16],
-)
-    requires setting { Setting (graph_of size kinds.now checks.now privileged.now entries.now grants.now froms.now tos.now ways.now) (system_of sure) wide.now any.now }
-    requires linked { Linked froms.now size.n head.now prev.now size.m }
-    requires lengths { (size.m ≤ length wide.now) × (size.n ≤ length any.now) × (size.n ≤ length head.now) × (size.m ≤ length prev.now) }
-    requires out_long { size.m ≤ length out.old }
-    ensures ins_len { (length ins.new ≡ 1024) × (length past.new ≡ 1024) }
-    ensures settled { Settled (graph_of size kinds.now checks.now privileged.now entries.now grants.now froms.now tos.now ways.now) (system_of sure) wide.now any.now ins.new past.new out.new }
+// One system: the sums of its nodes, when no edge has anything more to tell.
+fn settle(sums: &mut Sums, ground: &Ground)
+    requires walkable { Walkable ground.now }
+    requires sums { HasSums ground.now.graph.size.n sums.old }
+    ensures sums { HasSums ground.now.graph.size.n sums.new }
+    ensures settled { Settles ground.now sums.new }
 {
+    let size = ground.graph.size;
     let mut marks = [worklist::MARKED; graph::MOST_NODES];
     let mut stack = [0u16; graph::MOST_NODES];
-    sums::begin(ins, past, sure, size.k, size.n, checks, entries, grants);
+    sums.begin(ground.system, size.k, size.n, &ground.graph.nodes);
     worklist::fill(&mut stack, size.n);
-    walk(
-        ins, past, &mut marks, &mut stack, sure, size.k, size.n, size.m, kinds, checks, privileged,
-        entries, grants, froms, tos, ways, wide, any, head, prev,
-    );
-    round::spread(
-        out, sure, kinds, checks, privileged, grants, froms, tos, ways, any, ins, past,
-    );
+    let mut pending = Pending {
+        marks: &mut marks,
+        stack: &mut stack,
+        top: size.n,
+    };
+    walk(sums, &mut pending, ground);
 }
 
-// SURE, by the out sets and the sums that MAY left, and the sets of the nodes.
-fn store_sure(
-    denied: &mut [u64],
-    granted: &mut [u64],
-    sure: &mut [u64],
-    size: Size,
-    kinds: &[u8],
-    checks: &[u16],
-    privileged: &[u8],
-    entries: &[u8],
-    grants: &[u64],
-    froms: &[u16],
-    tos: &[u16],
-    ways: &[u8],
-    may: &[u64],
-    may_ins: &[u64],
-    may_past: &[u64],
-    head: &[u16],
-    prev: &[u16],
-)
-    requires settled { Settled (graph_of size kinds.now checks.now privileged.now entries.now grants.now froms.now tos.now ways.now) (system_of false) sure.old grants.now may_ins.now may_past.now may.now }
-    requires linked { Linked froms.now size.n head.now prev.now size.m }
-    requires lengths { (size.n ≤ length may_ins.now) × (size.n ≤ length may_past.now) × (size.n ≤ length head.now) × (size.m ≤ length prev.now) }
-    requires results_long { ResultsLong size.n size.m (length denied.old) (length granted.old) (length may.now) (length sure.old) }
-    ensures { Content (graph_of size kinds.now checks.now privileged.now entries.now grants.now froms.now tos.now ways.now) (slices denied.new granted.new may.now sure.new) }
+// The out sets of one system's edges.
+fn spread(out: &mut [u64], system: System, graph: &LentGraph, any: &[u64], sums: &Sums)
+    requires acceptable { Acceptable (lent graph.now) }
+    requires sums { HasSums graph.now.size.n sums.now }
+    requires long { (graph.now.size.n ≤ length any.now) × (graph.now.size.m ≤ length out.old) }
+    ensures { Carries (lent graph.now) (system_of system) any.now sums.now out.new }
 {
-    let mut sure_ins = [0u64; graph::MOST_NODES];
-    let mut sure_past = [0u64; graph::MOST_NODES];
-    run(
-        &mut sure_ins,
-        &mut sure_past,
-        sure,
-        true,
-        size,
-        kinds,
-        checks,
-        privileged,
-        entries,
-        grants,
-        froms,
-        tos,
-        ways,
-        may,
-        may_past,
-        head,
-        prev,
-    );
-    store_nodes(
-        denied, granted, size.k, size.n, privileged, grants, may_ins, &sure_ins,
-    );
+    round::spread(out, system, graph, any, sums.ins, sums.past);
 }
 
-// The content of the four slices for an accepted graph. MAY looks at no other out sets and sums: any slices of the right lengths are lent it.
-fn store(
-    denied: &mut [u64],
-    granted: &mut [u64],
-    may: &mut [u64],
-    sure: &mut [u64],
-    size: Size,
-    kinds: &[u8],
-    checks: &[u16],
-    privileged: &[u8],
-    entries: &[u8],
-    grants: &[u64],
-    froms: &[u16],
-    tos: &[u16],
-    ways: &[u8],
-)
-    requires acceptable { Acceptable (graph_of size kinds.now checks.now privileged.now entries.now grants.now froms.now tos.now ways.now) }
-    requires results_long { ResultsLong size.n size.m (length denied.old) (length granted.old) (length may.old) (length sure.old) }
-    ensures { Content (graph_of size kinds.now checks.now privileged.now entries.now grants.now froms.now tos.now ways.now) (slices denied.new granted.new may.new sure.new) }
+// The denied and granted sets of all nodes, from the sums of both systems.
+fn store_nodes(into: &mut SetPlaces, graph: &LentGraph, may: &Sums, sure: &Sums)
+    requires shape { Shape (lent graph.now) }
+    requires long { Long (lent graph.now) (stored into.old) }
+    requires may { HasSums graph.now.size.n may.now }
+    requires sure { HasSums graph.now.size.n sure.now }
+    ensures { NodesStored (lent graph.now) may.now sure.now into.old into.new }
+{
+    for i in 0..graph.size.n {
+        let mark = graph.nodes.privileged[i];
+        let own = graph.nodes.grants[i];
+        into.denied[i] = flow::deny(graph.size.k, mark, own, may.ins[i]);
+        into.granted[i] = flow::called(mark, own, sure.ins[i]);
+    }
+}
+
+// The content of the four slices for an accepted graph.
+fn store(graph: &LentGraph, into: &mut SetPlaces)
+    requires acceptable { Acceptable (lent graph.now) }
+    requires long { Long (lent graph.now) (stored into.old) }
+    ensures { Content (lent graph.now) (stored into.new) }
 {
     let mut head = [0u16; graph::MOST_NODES];
     let mut prev = [0u16; graph::MOST_EDGES];
+    let mut lists = EdgeLists {
+        head: &mut head,
+        prev: &mut prev,
+    };
+    lists.link(graph.edges.froms);
     let mut may_ins = [0u64; graph::MOST_NODES];
     let mut may_past = [0u64; graph::MOST_NODES];
-    worklist::link(&mut head, &mut prev, froms);
-    run(
-        &mut may_ins,
-        &mut may_past,
-        may,
-        false,
-        size,
-        kinds,
-        checks,
-        privileged,
-        entries,
-        grants,
-        froms,
-        tos,
-        ways,
-        sure,
-        grants,
-        &head,
-        &prev,
-    );
-    store_sure(
-        denied, granted, sure, size, kinds, checks, privileged, entries, grants, froms, tos, ways,
-        may, &may_ins, &may_past, &head, &prev,
-    );
+    let mut may = Sums {
+        ins: &mut may_ins,
+        past: &mut may_past,
+    };
+    // MAY looks at no other out sets and sums: any slices of the right lengths are lent it.
+    let ground = Ground {
+        system: System::May,
+        graph: *graph,
+        lists: &lists,
+        wide: into.sure,
+        any: graph.nodes.grants,
+    };
+    settle(&mut may, &ground);
+    spread(into.may, System::May, graph, graph.nodes.grants, &may);
+    let mut sure_ins = [0u64; graph::MOST_NODES];
+    let mut sure_past = [0u64; graph::MOST_NODES];
+    let mut sure = Sums {
+        ins: &mut sure_ins,
+        past: &mut sure_past,
+    };
+    let ground = Ground {
+        system: System::Sure,
+        graph: *graph,
+        lists: &lists,
+        wide: into.may,
+        any: may.past,
+    };
+    settle(&mut sure, &ground);
+    spread(into.sure, System::Sure, graph, may.past, &sure);
+    store_nodes(into, graph, &may, &sure);
 }
 
 // Solves both systems, and stores the denied and granted sets of every node and the MAY and SURE out sets of every edge. A refusal
@@ -364,14 +239,15 @@ fn store(
 pub fn solve(graph: &LentGraph, into: &mut SetPlaces) -> Result<(), Refusal>
     ensures { Solves (lent graph.now) (stored into.old) result (stored into.new) }
 {
-    if !rules::results_long(
+    let long = rules::results_long(
         graph.size.n,
         graph.size.m,
         into.denied.len(),
         into.granted.len(),
         into.may.len(),
         into.sure.len(),
-    ) {
+    );
+    if !long {
         return Err(Refusal::Shape);
     }
     judge::check(graph)?;

@@ -1,34 +1,21 @@
-use mathlib.Core.Path.{◌∙◌}
-use native.Mathlib.Omega.{arith}
-use Rattle.writer.specs.Writer.Places.{puts_long}
-use Rattle.members.specs.Members.Laws.{halving_start, halving_low, halving_more, halving_end}
-use borrow.Author.Rules.{rules}
+use Rattle.std.proofs.Common.{List, ℕ, [], ◌∷◌, ◌++◌, arith, rules, refl, sym, ap, ◌∙◌}
+use Rattle.std.proofs.lemmas.List.{take_more_set}
+use Rattle.members.specs.Members.{members_from}
+use Rattle.members.specs.Members.Laws.{members_more, members_same, members_all}
 use Rattle.members.proofs.list_members.Goals as goal
+use Rattle.members.proofs.list_members.Goals.{then-has, else-has}
 
-pub loop-rest-init : goal.loop-rest-init
-loop-rest-init c = halving_start (omega arith) (search rules)
+pub loop-p-init : goal.loop-p-init
+unfolding members_from
+loop-p-init c = (refl, omega arith)
 
-pub list_one-count-requires : goal.list_one-count-requires
-list_one-count-requires c =
-    let v = c.loop-rest.invariant in
-    let low = halving_low v c.loop-rest-test.true in
-    let long = puts_long v.listing.so_far ∙ c.requires in
-    (omega (arith, v.listing.few, long, low), low, long)
+pub loop-p-preserved : goal.loop-p-preserved
+loop-p-preserved c =
+    let v = c.loop-p in
+    elim c.if-has.branch [
+      | then-has w ↦ (rw (w.list-is, w.count-is) (take_more_set v.list v.count v.p (omega arith) ∙ ap (λ (l : List ℕ). l ++ (v.p ∷ [])) v.invariant.0 ∙ members_more _ _ (sym c.has.ensures ∙ w.if-has.true)), omega arith)
+      | else-has w ↦ (rw (w.list-is, w.count-is) (v.invariant.0 ∙ members_same _ _ (sym c.has.ensures ∙ w.if-has.false)), omega arith)
+    ]
 
-pub overflow_add-p : goal.overflow_add-p
-overflow_add-p c =
-    omega (arith, halving_low c.loop-rest.invariant c.loop-rest-test.true)
-
-pub loop-rest-smaller : goal.loop-rest-smaller
-loop-rest-smaller c =
-    omega (arith, halving_low c.loop-rest.invariant c.loop-rest-test.true)
-
-pub loop-rest-preserved : goal.loop-rest-preserved
-loop-rest-preserved c =
-    halving_more c.loop-rest.invariant c.loop-rest-test.true c.list_one-count.ensures
-
-pub shape_of-list : goal.shape_of-list
-shape_of-list c = puts_long c.loop-rest.invariant.listing.so_far
-
-pub returns : goal.returns
-returns c = halving_end c.loop-rest.invariant c.loop-rest-test.false
+pub returns-clause-listed : goal.returns-clause-listed
+returns-clause-listed c = c.loop-p.invariant.0 ∙ members_all _ _ (search rules) (omega (arith, c.loop-p-test.false, c.loop-p.auto.p-end))

@@ -1,11 +1,8 @@
--- After i turns the first i numbers are put, a space before each.
-use Prim.Native.Nat.{◌-◌}
-use lib.ListN.{length}
-use Rattle.members.specs.Members.Laws.{Spacing}
+-- The numbers before this one are put, a space before each.
+use Rattle.std.proofs.Common.{take}
+use Rattle.writer.specs.Writer.{Adds}
+use Rattle.members.specs.Members.{after_first}
 use Rattle.members.proofs.put_rest.Given as goal
 
-abbrev pub invariant-loop-i : goal.invariant-loop-i
-invariant-loop-i l = Spacing l.list l.initial.out l.at l.next l.i l.out
-
-abbrev pub decreases-loop-i : goal.decreases-loop-i
-decreases-loop-i l = length l.list - l.i
+abbrev pub invariant-loop-p : goal.invariant-loop-p
+invariant-loop-p l = Adds (after_first (take l.p-index l.list)) l.initial.out l.out

@@ -4,10 +4,10 @@
 
 ghost use Rattle.std.specs.Prelude.{◌≡◌, ◌<◌, ◌≤◌, ℕ, List, length};
 ghost use Rattle.truth.specs.Truth.{Says};
-ghost use Rattle.graph.specs.Graph.{Acceptable, NodesLong, map_node};
-ghost use Rattle.graph.specs.Lent.{lent, nodes_lent};
+ghost use Rattle.graph.specs.Graph.{Acceptable};
+ghost use Rattle.graph.specs.Lent.{lent};
 ghost use Rattle.frames.specs.Frames.{StackFits};
-ghost use Rattle.stacks.specs.Machine.{Inspected, stack_of, rights, full, quick};
+ghost use Rattle.stacks.specs.Machine.{Inspected, stack_of, rights, rights_of, full, quick};
 ghost use Rattle.machine.specs.Inspect.{SaysSo, Asks, JudgesAsked, FullAnswers, QuickAnswers};
 ghost use Rattle.machine.specs.Inspect.Looking.{AtFrame, Decides};
 ghost use Rattle.machine.specs.Steps.{DeniedOf, Steps};
@@ -75,11 +75,12 @@ fn look<F: Fn(usize) -> Option<bool>>(stack: &[u16], height: usize, decide: F) -
 }
 
 // Full inspection of a stack that fits.
-fn look_full(nodes: &LentNodes, stack: &[u16], height: usize, p: usize) -> Inspection
-    requires long { NodesLong (length nodes.now.grants.now) (map_node length (nodes_lent nodes.now)) }
-    requires fits { StackFits (length nodes.now.grants.now) stack.now height }
-    ensures { SaysSo result (full (rights nodes.now.privileged.now nodes.now.grants.now) p (stack_of stack.now height)) }
+fn look_full(graph: &LentGraph, stack: &[u16], height: usize, p: usize) -> Inspection
+    requires accepted { Acceptable (lent graph.now) }
+    requires fits { StackFits graph.now.size.n stack.now height }
+    ensures { SaysSo result (full (rights_of (lent graph.now)) p (stack_of stack.now height)) }
 {
+    let nodes = &graph.nodes;
     look(stack, height, |node| by_rights(nodes, p, node))
 }
 
@@ -113,7 +114,7 @@ pub fn full(
     ensures { FullAnswers (lent graph.now) stack.now height p result }
 {
     judge_asked(graph, p, graph.size.k, stack, height)?;
-    Ok(look_full(&graph.nodes, stack, height, p))
+    Ok(look_full(graph, stack, height, p))
 }
 
 // Whether quick inspection of the stack, by the denied and granted sets as they are, passes the permission.
@@ -146,7 +147,9 @@ fn find_place(graph: &LentGraph, stack: &[u16], height: usize, next: usize) -> O
     let top = stack[height - 1] as usize;
     match graph.nodes.kinds[top] {
         graph::KIND_CALL => edges::lead(m, edges, graph::CALL, top, next).then_some(height),
-        graph::KIND_CHECK => edges::lead(m, edges, graph::TRANSFER, top, next).then_some(height - 1),
+        graph::KIND_CHECK => edges::lead(m, edges, graph::TRANSFER, top, next).then_some(
+            height - 1,
+        ),
         graph::KIND_RETURN if 2 <= height => {
             let lower = stack[height - 2] as usize;
             edges::lead(m, edges, graph::TRANSFER, lower, next).then_some(height - 2)
@@ -167,7 +170,10 @@ fn top_denied(graph: &LentGraph, stack: &[u16], height: usize) -> bool
     let nodes = &graph.nodes;
     let top = stack[height - 1] as usize;
     nodes.kinds[top] == graph::KIND_CHECK
-        && matches!(look_full(nodes, stack, height, nodes.checks[top] as usize), Inspection::Fails(_))
+        && matches!(
+            look_full(graph, stack, height, nodes.checks[top] as usize),
+            Inspection::Fails(_)
+        )
 }
 
 // Takes the step that names the next node, or refuses.

@@ -1,7 +1,7 @@
 -- What `verdict` promises. Definitions alone: that the promise leaves one answer is below.
 pub mod Laws
 pub mod Impostors
-use Rattle.std.specs.Prelude.{ℕ, ◌<◌, ◌≡◌, List, true, false, length, get_or}
+use Rattle.std.specs.Prelude.{ℕ, ◌<◌, ◌≡◌, List, true, false, length, get_or, Result, Ok, Err}
 use Rattle.sets.specs.Sets.{has}
 use Rattle.graph.specs.Graph.{Graph, is_check, check, Acceptable, verdict_of}
 use Rattle.graph.specs.Refusals.{Numbered, ◌at◌, numbered}
@@ -9,7 +9,6 @@ use Rattle.graph.specs.Judge.{Refuses}
 use Rattle.graph.specs.declared.Refusal.{Refusal}
 use Rattle.verdict.specs.declared.Finding.{Finding}
 use Rattle.verdict.specs.declared.Finding.TheVariants.{Needed, AlwaysPasses, AlwaysFails, NeverReached}
-use Rattle.std.specs.Prelude.{Result, Ok, Err}
 
 -- A verdict, or why there is none.
 abbrev pub Ruling : Type 0

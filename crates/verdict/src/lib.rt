@@ -81,7 +81,8 @@ pub fn verdict(graph: &LentGraph, sets: &LentSets, node: usize) -> Result<Findin
     if n <= node {
         return Err(Refusal::Asked);
     }
-    if graph.nodes.kinds[node] != graph::KIND_CHECK {
+    let is_check = graph.nodes.kinds[node] == graph::KIND_CHECK;
+    if !is_check {
         return Err(Refusal::NotACheck);
     }
     Ok(rule(sets, graph.nodes.checks[node], node))

@@ -1,40 +1,16 @@
-use Rattle.machine.specs.Inspect.{FullAnswers, graph, asked, stack}
-use Rattle.graph.specs.Judge.Laws.{accepted_is, refused_is}
-use Rattle.truth.specs.Truth.Tests.{says_true, says_false}
-use native.Mathlib.Omega.{arith}
+use Rattle.std.specs.Prelude.{◌≡◌, Err}
+use Rattle.std.proofs.Common.{rules}
+use Rattle.machine.specs.Inspect.{FullAnswers}
+use Rattle.machine.specs.Inspect.Laws.{may_be_asked, refused_asking}
 use Rattle.machine.proofs.full.Goals as goal
 
-pub returns-in-Refused : goal.returns-in-Refused
-returns-in-Refused c =
-    FullAnswers.refused
-    (graph (refused_is (rw c.in-Refused.is at c.check-judged.ensures)))
-
-pub returns-then-k-p : goal.returns-then-k-p
-returns-then-k-p c =
-    FullAnswers.refused
-    (asked (accepted_is (rw c.in_default.is at c.check-judged.ensures)) (λ h. omega arith))
-
-pub returns-then-not-stack_fits : goal.returns-then-not-stack_fits
-returns-then-not-stack_fits c =
-    FullAnswers.refused
-    (stack
-    (accepted_is (rw c.in_default.is at c.check-judged.ensures))
-    (omega arith)
-    (says_false c.stack_fits.ensures c.if-not-stack_fits.true))
+pub returns-in_err-judge_asked : goal.returns-in_err-judge_asked
+returns-in_err-judge_asked c =
+    let e : (c.from_residual.result ≡ Err c.in_err-judge_asked.field-0.0) = search rules in
+    rw e (FullAnswers.refused (refused_asking c.in_err-judge_asked.ensures))
 
 pub look_full-requires : goal.look_full-requires
-look_full-requires c =
-    let a = accepted_is (rw c.in_default.is at c.check-judged.ensures) in
-    let f = says_true c.stack_fits.ensures c.if-not-stack_fits.false in
-    let n = a.shape.nodes in
-    record { sizes = (f.held, omega (arith, f.held, f.slice), omega (arith, n.privileged, n.grants)); frames = rw n.grants f.nodes }
+look_full-requires c = let a = may_be_asked c.in_ok-judge_asked.ensures in record { accepted = a.acceptable; fits = a.fits }
 
 pub returns : goal.returns
-returns c =
-    FullAnswers.looked {a = c.look_full.result}
-    (record {
-      acceptable = accepted_is (rw c.in_default.is at c.check-judged.ensures);
-      below = omega arith;
-      fits = says_true c.stack_fits.ensures c.if-not-stack_fits.false;
-    })
-    c.look_full.ensures
+returns c = FullAnswers.looked (may_be_asked c.in_ok-judge_asked.ensures) c.look_full.ensures

@@ -2,13 +2,14 @@
 use Rattle.std.specs.Prelude.{ℕ, ◌≡◌, refl, List, cond, Ok, Err}
 use Rattle.std.proofs.Common.{sym, ◌∙◌, ap}
 use Rattle.graph.specs.Graph.{Graph}
-use Rattle.graph.specs.Refusals.{Numbered}
+use Rattle.graph.specs.Refusals.{Numbered, numbered}
 use Rattle.graph.specs.Refusals.Laws.{numbered_one}
 use Rattle.graph.specs.Judge.Laws.{refuses_one, refuses_not}
+use Rattle.graph.specs.declared.Refusal.{Refusal}
 use Rattle.machine.specs.declared.Inspection.{Inspection}
 use Rattle.machine.specs.declared.Inspection.TheVariants as answer
 use Rattle.stacks.specs.Machine.{Inspected}
-use Rattle.machine.specs.Inspect.{Answer, SaysSo, passes, fails, Asks, AskRefuses, graph, asked, stack, FullAnswers, QuickAnswers}
+use Rattle.machine.specs.Inspect.{Answer, SaysSo, passes, fails, Asks, AskRefuses, graph, asked, stack, JudgesAsked, FullAnswers, QuickAnswers}
 
 -- an answer that says so is fixed by what it says
 answer_of : Inspected → Inspection
@@ -35,6 +36,14 @@ module _ (g : Graph) {low : Type 0} {s : List ℕ} {h : ℕ} where
   refusal_not (graph f) a = refuses_not g f a.acceptable
   refusal_not (asked _ d) a = d a.below
   refusal_not (stack _ _ d) a = d a.fits
+
+-- what the judgement of a call tells
+module _ {g : Graph} {low : Type 0} {s : List ℕ} {h : ℕ} where
+  pub may_be_asked : JudgesAsked g low s h (Ok tt) → Asks g low s h
+  may_be_asked (JudgesAsked.may_ask a) = a
+
+  pub refused_asking : {r : Refusal} → JudgesAsked g low s h (Err r) → AskRefuses g low s h (numbered r)
+  refused_asking (JudgesAsked.refused f) = f
 
 module _ (g : Graph) (s : List ℕ) (h p : ℕ) where
   pub full_one : {a b : Answer} → FullAnswers g s h p a → FullAnswers g s h p b → a ≡ b

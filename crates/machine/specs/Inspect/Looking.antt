@@ -4,7 +4,7 @@ use Rattle.std.proofs.Common.{◌∙◌, ap, arith}
 use Rattle.truth.specs.Truth.{All}
 use Rattle.machine.specs.declared.Inspection.TheVariants as answer
 use Rattle.stacks.specs.Machine.{Inspected, decided, below, bottom, stack_of}
-use Rattle.stacks.specs.Machine.Slices.{bare, on_top}
+use Rattle.stacks.specs.Machine.Slices.{bare, topped}
 use Rattle.machine.specs.Inspect.{SaysSo, passes, fails}
 
 -- What comes of a frame's answer v, where down is the answer of the frames below it.
@@ -43,28 +43,31 @@ says_fails e = rw e fails
 pub looking_start : (look : List ℕ → Inspected) (s : List ℕ) (height : ℕ) → Looking look s height height
 looking_start look s height = record { left = omega arith; same = ap (looked_at (look (stack_of s height)).passes) (omega arith) }
 
--- The frame at place i is the next one, and v is answered of its node.
-module _ {look : List ℕ → Inspected} {s : List ℕ} {height i : ℕ} (l : Looking look s height (i + 1)) where
-  next : {v : Option Bool} → AtFrame look (get_or s i 0) v → look (stack_of s height) ≡ further (height - (i + 1)) (decided_by v (look (stack_of s i)))
-  next a = l.same ∙ ap (λ (x : List ℕ). further (height - (i + 1)) (look x)) (on_top s i) ∙ ap (further (height - (i + 1))) (a (stack_of s i))
+-- The frame at place h - 1 is the next one.
+module _ {look : List ℕ → Inspected} {s : List ℕ} {height h : ℕ} (l : Looking look s height h) (some : 0 < h) where
+  next : (v : Option Bool) → AtFrame look (get_or s (h - 1) 0) v → look (stack_of s height) ≡ further (height - h) (decided_by v (look (stack_of s (h - 1))))
+  next v a = l.same ∙ ap (λ (x : List ℕ). further (height - h) (look x)) (topped s h some) ∙ ap (further (height - h)) (a (stack_of s (h - 1)))
 
-  here : {b : Bool} → AtFrame look (get_or s i 0) (Some b) → look (stack_of s height) ≡ looked_at b (height - i)
-  here {b} a = next a ∙ ap (looked_at b) (omega (arith, l.left))
+  here : {b : Bool} → AtFrame look (get_or s (h - 1) 0) (Some b) → look (stack_of s height) ≡ looked_at b (height - (h - 1))
+  here {b} a = next (Some b) a ∙ ap (looked_at b) (omega (arith, l.left, some))
 
-  pub looking_passes : AtFrame look (get_or s i 0) (Some true) → SaysSo (answer.Passes (height - i)) (look (stack_of s height))
+  pub looking_passes : AtFrame look (get_or s (h - 1) 0) (Some true) → SaysSo (answer.Passes (height - (h - 1))) (look (stack_of s height))
   looking_passes a = says_passes (here a)
 
-  pub looking_fails : AtFrame look (get_or s i 0) (Some false) → SaysSo (answer.Fails (height - i)) (look (stack_of s height))
+  pub looking_fails : AtFrame look (get_or s (h - 1) 0) (Some false) → SaysSo (answer.Fails (height - (h - 1))) (look (stack_of s height))
   looking_fails a = says_fails (here a)
 
-  pub looking_below : AtFrame look (get_or s i 0) None → Looking look s height i
+  pub looking_below : AtFrame look (get_or s (h - 1) 0) None → Looking look s height (h - 1)
   looking_below a = record {
     left = omega (arith, l.left);
-    same = next a ∙ ap (looked_at (look (stack_of s i)).passes) (omega (arith, l.left));
+    same = next None a ∙ ap (looked_at (look (stack_of s (h - 1))).passes) (omega (arith, l.left, some));
   }
 
 -- no frame is left
-pub looking_end : {look : List ℕ → Inspected} {s : List ℕ} {height : ℕ} → Looking look s height 0 → look [] ≡ bottom → SaysSo (answer.Passes height) (look (stack_of s height))
-looking_end {look} {s} {height} l e =
-    says_passes
-    (l.same ∙ ap (λ (x : List ℕ). further (height - 0) (look x)) (bare s) ∙ ap (further (height - 0)) e ∙ ap (looked_at true) (omega arith))
+pub looking_end : {look : List ℕ → Inspected} {s : List ℕ} {height h : ℕ} → Looking look s height h → h ≤ 0 → look [] ≡ bottom → SaysSo (answer.Passes height) (look (stack_of s height))
+looking_end {look} {s} {height} {h} l none e =
+    let out : h ≡ 0 = omega (arith, none) in
+    says_passes (
+    l.same ∙ ap (λ (x : ℕ). further (height - x) (look (stack_of s x))) out ∙ ap (λ (x : List ℕ). further (height - 0) (look x)) (bare s)
+    ∙ ap (further (height - 0)) e ∙ ap (looked_at true) (omega arith)
+    )

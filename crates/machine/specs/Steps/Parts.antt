@@ -1,5 +1,5 @@
 -- The parts of a step: where it writes, and what an inspection's answer says of the check on top.
-use Rattle.std.specs.Prelude.{ℕ, ◌<◌, ◌≤◌, ◌≡◌, refl, Option, Some, None, true, false, get_or}
+use Rattle.std.specs.Prelude.{ℕ, ◌<◌, ◌≤◌, ◌≡◌, refl, List, Option, Some, None, true, false, get_or}
 use Rattle.std.proofs.Common.{arith}
 use Rattle.graph.specs.Graph.{Graph, Leads}
 use Rattle.stacks.specs.Machine.{Inspected}
@@ -13,7 +13,7 @@ pub data Placed (g : Graph) (stack : List ℕ) (height next : ℕ) : Option ℕ 
   somewhere : {place : ℕ} → RuleOf g stack height next place → Placed g stack height next (Some place)
   nowhere : ((place : ℕ) → RuleOf g stack height next place → ⊥) → Placed g stack height next None
 
-module _ {g : Graph} {stack : List ℕ} {height next : ℕ} where
+module _ (g : Graph) {stack : List ℕ} {height next : ℕ} where
   -- no rule leads to the next node
   pub no_place : (height ≡ 0 → get_or g.nodes.entries next 0 ≡ 1 → ⊥)
       → (0 < height → get_or g.nodes.kinds (top stack height) 0 ≡ 0 → Leads g 0 (top stack height) next → ⊥)

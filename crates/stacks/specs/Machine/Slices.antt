@@ -12,7 +12,7 @@ pub bare : (st : List ℕ) → stack_of st 0 ≡ []
 unfolding stack_of
 bare st = refl
 
-pub on_top : (st : List ℕ) (h : ℕ) → stack_of st (h + 1) ≡ get_or st h 0 ∷ stack_of st h
+on_top : (st : List ℕ) (h : ℕ) → stack_of st (h + 1) ≡ get_or st h 0 ∷ stack_of st h
 unfolding stack_of
 on_top st h = let e : (h + 1 ≡ suc h) = omega arith in rw e refl
 

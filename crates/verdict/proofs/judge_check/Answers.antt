@@ -2,14 +2,14 @@ use mathlib.Core.Path.{sym}
 use Rattle.graph.specs.Graph.Code.{verdict_code}
 use Rattle.verdict.proofs.judge_check.Goals as goal
 
-pub returns-then-granted : goal.returns-then-granted
-returns-then-granted c = rw (c.if-denied.true, c.if-granted.true) (sym verdict_code.3)
+pub returns-in-true-true : goal.returns-in-true-true
+returns-in-true-true c = rw (c.in-true-true.is-0, c.in-true-true.is-1) (sym verdict_code.3)
 
-pub returns-then-denied : goal.returns-then-denied
-returns-then-denied c = rw (c.if-denied.true, c.if-granted.false) (sym verdict_code.2)
+pub returns-in-true-false : goal.returns-in-true-false
+returns-in-true-false c = rw (c.in-true-false.is-0, c.in-true-false.is-1) (sym verdict_code.2)
 
-pub returns-then-granted-2 : goal.returns-then-granted-2
-returns-then-granted-2 c = rw (c.if-denied.false, c.if-granted-2.true) (sym verdict_code.1)
+pub returns-in-false-true : goal.returns-in-false-true
+returns-in-false-true c = rw (c.in-false-true.is-0, c.in-false-true.is-1) (sym verdict_code.1)
 
-pub returns : goal.returns
-returns c = rw (c.if-denied.false, c.if-granted-2.false) (sym verdict_code.0)
+pub returns-in-false-false : goal.returns-in-false-false
+returns-in-false-false c = rw (c.in-false-false.is-0, c.in-false-false.is-1) (sym verdict_code.0)

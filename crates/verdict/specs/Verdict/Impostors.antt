@@ -1,5 +1,5 @@
 -- A verdict that the promise shuts out, at the worked gateway: a constant "needed".
-use Rattle.std.specs.Prelude.{ℕ, ◌≡◌, true, false}
+use Rattle.std.specs.Prelude.{ℕ, ◌≡◌, true, false, Ok}
 use Rattle.std.proofs.Common.{◌∙◌, arith}
 use Rattle.sets.specs.Sets.{has}
 use Rattle.sets.specs.Sets.Code.{has_code}
@@ -7,7 +7,6 @@ use Rattle.graph.specs.Graph.{verdict_of}
 use Rattle.graph.specs.Graph.Code.{verdict_code}
 use Rattle.graph.specs.Graph.Gateway.{gateway, gateway_slices}
 use Rattle.verdict.specs.declared.Finding.TheVariants.{Needed}
-use Rattle.std.specs.Prelude.{Ok, Err}
 use Rattle.verdict.specs.Verdict.{Rules, given}
 
 -- the check at node 5 is not "needed" by the sets that are stored

@@ -1,5 +1,5 @@
 -- One answer for every input.
-use Rattle.std.specs.Prelude.{ℕ, ◌≡◌, refl, List, [], ◌∷◌, get_or}
+use Rattle.std.specs.Prelude.{ℕ, ◌≡◌, refl, List, [], ◌∷◌, get_or, Ok, Err}
 use Rattle.std.proofs.Common.{sym, ◌∙◌, ap}
 use Rattle.truth.specs.Truth.Bools.{clash}
 use Rattle.graph.specs.Graph.{Graph}
@@ -8,9 +8,7 @@ use Rattle.graph.specs.Refusals.Laws.{numbered_one}
 use Rattle.graph.specs.Judge.Laws.{refuses_one, refuses_not}
 use Rattle.verdict.specs.declared.Finding.{Finding}
 use Rattle.verdict.specs.declared.Finding.TheVariants.{Needed, AlwaysPasses, AlwaysFails, NeverReached}
-use Rattle.verdict.specs.Verdict.{Ruling}
-use Rattle.std.specs.Prelude.{Ok, Err}
-use Rattle.verdict.specs.Verdict.{verdict_number, VerdictRefuses, sets, graph, asked, no_check, VerdictGiven, Rules, refused, given}
+use Rattle.verdict.specs.Verdict.{Ruling, verdict_number, VerdictRefuses, sets, graph, asked, no_check, VerdictGiven, Rules, refused, given}
 
 -- what a check's two sets say of it is one finding
 finding_numbered : ℕ → Finding

@@ -1,14 +1,13 @@
 -- The sums begin only where there is room for them.
 use Rattle.truth.specs.Truth.Tests.{says_true, says_false}
 use Rattle.sums.specs.Sums.{begun, kept}
-use Rattle.sums.proofs.begin.Goals as goal
-
-pub returns-then-not-have_room : goal.returns-then-not-have_room
-returns-then-not-have_room c = kept (says_false c.have_room.ensures c.if-not-have_room.true)
+use Rattle.sums.proofs.Sums.begin.Goals as goal
 
 pub begin_all-requires : goal.begin_all-requires
-begin_all-requires c = says_true c.have_room.ensures c.if-not-have_room.false
+begin_all-requires c = says_true c.have_room-room.ensures c.if-room.true
 
-pub returns : goal.returns
-returns c =
-    begun (says_true c.have_room.ensures c.if-not-have_room.false) c.begin_all.ensures
+pub returns-then-room : goal.returns-then-room
+returns-then-room c = rw c.if-room.true (begun (says_true c.have_room-room.ensures c.if-room.true) c.begin_all.ensures)
+
+pub returns-else-room : goal.returns-else-room
+returns-else-room c = rw c.if-room.false (kept (says_false c.have_room-room.ensures c.if-room.false))

@@ -1,5 +1,5 @@
 use Rattle.sums.specs.Sums.Laws.{uncounted, counted_too}
-use Rattle.sums.proofs.deliver.Goals as goal
+use Rattle.sums.proofs.Sums.deliver.Goals as goal
 
 pub returns-then-not-counted : goal.returns-then-not-counted
 returns-then-not-counted c = uncounted _ _ _ _ _ _ _ _ c.merge_at-more.ensures c.if-not-counted.true

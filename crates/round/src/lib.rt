@@ -36,6 +36,13 @@ fn ends_low(n: usize, froms: &[u16], tos: &[u16]) -> bool
     n <= worklist::LARGEST && worklist::all_below(froms, n) && worklist::all_below(tos, n)
 }
 
+fn can_spread(graph: &LentGraph, any: &[u64], ins: &[u64], past: &[u64], out: &[u64]) -> bool
+    ensures { Says (CanSpread (lent graph.now) any.now ins.now past.now out.now) result }
+{
+    let n = graph.nodes.kinds.len();
+    have_room(graph, any, ins, past, out) && ends_low(n, graph.edges.froms, graph.edges.tos)
+}
+
 // The out set of edge e.
 fn out_of(
     system: System,
@@ -95,9 +102,7 @@ pub fn spread(
 ) -> bool
     ensures { Spreads (lent graph.now) (system_of system) any.now ins.now past.now out.old result out.new }
 {
-    let n = graph.nodes.kinds.len();
-    let can = have_room(graph, any, ins, past, out)
-        && ends_low(n, graph.edges.froms, graph.edges.tos);
+    let can = can_spread(graph, any, ins, past, out);
     if can {
         spread_all(out, system, graph, any, ins, past);
     }

@@ -1,21 +1,12 @@
-use native.Mathlib.Omega.{arith}
-use Rattle.truth.specs.Truth.{fails}
-use Rattle.truth.specs.Truth.Tests.{says_same}
+use borrow.Author.Rules.{rules}
+use borrow.Author.Tests.{tests}
+use Rattle.truth.specs.Truth.Tests.{says_same, says_no}
 use Rattle.round.proofs.can_gather.Goals as goal
 
-pub returns-then-n-gt-LARGEST : goal.returns-then-n-gt-LARGEST
-returns-then-n-gt-LARGEST c = fails (λ p. omega (arith, p.few))
-
-pub returns-then-checks-n : goal.returns-then-checks-n
-returns-then-checks-n c = fails (λ p. omega (arith, p.checks_long))
-
-pub returns-then-wide-tos : goal.returns-then-wide-tos
-returns-then-wide-tos c = fails (λ p. omega (arith, p.wide_long))
-
-pub returns-then-out-tos : goal.returns-then-out-tos
-returns-then-out-tos c = fails (λ p. omega (arith, p.out_long))
-
-pub returns : goal.returns
-returns c =
+pub returns-then-tos-out : goal.returns-then-tos-out
+returns-then-tos-out c =
     says_same c.all_below.ensures
-    (λ p. record { few = omega arith; checks_long = omega arith; wide_long = omega arith; out_long = omega arith; ends = p }) (λ p. p.ends)
+    (λ p. record { few = search (rules, tests); checks_long = search (rules, tests); wide_long = search (rules, tests); out_long = search (rules, tests); ends = p }) (λ p. p.ends)
+
+pub returns-else-tos-out : goal.returns-else-tos-out
+returns-else-tos-out c = says_no c.if-tos-out.false (λ p. search (rules, tests))

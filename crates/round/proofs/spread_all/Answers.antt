@@ -7,7 +7,7 @@ pub loop-e-init : goal.loop-e-init
 loop-e-init c = filled_none _ _ _
 
 pub out_of-requires : goal.out_of-requires
-out_of-requires c = carriable _ _ _ _ _ _ _ _ _ _ _ c.requires _ c.loop-e-test.true
+out_of-requires c = carriable _ _ _ _ _ c.requires _ c.loop-e-test.true
 
 pub loop-e-preserved : goal.loop-e-preserved
 loop-e-preserved c = filled_more _ _ _ _ _ _ c.loop-e-test.true (omega arith) c.out_of.ensures c.loop-e.invariant

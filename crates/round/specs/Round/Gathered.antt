@@ -20,162 +20,137 @@ use Rattle.flow.specs.Walk.{merge, past_num, judged_num, carried, AnyPasses, int
 use Rattle.flow.specs.Walk.Order.{toward_refl, toward_trans, merge_left, merge_right, merge_both}
 use Rattle.flow.proofs.Walk.Sums.{has_carried, has_past_sure, set_holds, edge_toward, edge_past, begun_below, begun_past_below, begun_good}
 use Rattle.sums.specs.Sums.{Room, begun, kept}
-use Rattle.round.specs.Round.{ins_to, past_to, Gatherable, Gathers, gathered, unsent, unbegun}
+use Rattle.round.specs.Round.{nodes, sums_to, ins_to, past_to, Gatherable, Gathers, gathered, unsent, unbegun}
 
--- ---- the sums of all that arrives, while edges arrive
+-- ---- the sums of what counts, while edges arrive
 
--- a sum keeps what it had
-into_keeps : (y : System) (l : List ℕ) (b v n p : ℕ) → b < length l → Toward y (has (get_or l n 0) p) (has (get_or (into y l b v) n 0) p)
-into_keeps y l b v n p h = set_holds (λ (m x : ℕ). Toward y (has (get_or l m 0) p) (has x p)) l b _ h (merge_left (get_or l b 0) v p y) n (toward_refl y _)
+module _ (tos : List ℕ) (y : System) (o : List ℕ) (counted : ℕ → Bool) (s : List ℕ) (m : ℕ) (ends : (e : ℕ) → e < m → get_or tos e 0 < length s) where
+  abbrev sums : ℕ → List ℕ
+  sums i = sums_to tos y o counted i s
 
-module _ (tos : List ℕ) (y : System) (o s : List ℕ) (m : ℕ) (ends : (e : ℕ) → e < m → get_or tos e 0 < length s) where
-  abbrev ins : ℕ → List ℕ
-  ins i = ins_to tos y o i s
+  cond_long : (t : Bool) (l : List ℕ) (b v : ℕ) → length (cond t (into y l b v) l) ≡ length l
+  cond_long true l b v = length-set l b _
+  cond_long false l b v = refl
 
-  ins_long : (i : ℕ) → length (ins i) ≡ length s
-  unfolding ins_to
-  ins_long zero = refl
-  ins_long (suc e) = length-set (ins e) _ _ ∙ ins_long e
+  sums_long : (i : ℕ) → length (sums i) ≡ length s
+  unfolding sums_to
+  sums_long zero = refl
+  sums_long (suc e) = cond_long (counted e) (sums e) (get_or tos e 0) (get_or o e 0) ∙ sums_long e
 
-  end_low : (e : ℕ) → e < m → get_or tos e 0 < length (ins e)
-  end_low e l = rw (ins_long e) (ends e l)
+  end_low : (e : ℕ) → e < m → get_or tos e 0 < length (sums e)
+  end_low e l = rw (sums_long e) (ends e l)
 
-  ins_keeps : (i n p : ℕ) → i ≤ m → Toward y (has (get_or s n 0) p) (has (get_or (ins i) n 0) p)
-  unfolding ins_to
-  ins_keeps zero n p h = toward_refl y _
-  ins_keeps (suc e) n p h = toward_trans y _ _ _ (ins_keeps e n p (omega arith)) (into_keeps y (ins e) (get_or tos e 0) (get_or o e 0) n p (end_low e (omega arith)))
-
-  -- and gets what each edge brings
-  ins_gets : (i e p : ℕ) → e < i → i ≤ m → Toward y (has (get_or o e 0) p) (has (get_or (ins i) (get_or tos e 0) 0) p)
-  unfolding ins_to
-  ins_gets zero e p l h = absurd (omega arith)
-  ins_gets (suc d) e p l h = go (ℕ_discrete e d) (λ f. ins_gets d e p (omega arith) (omega arith))
+  -- what holds of a node's sum before an edge, and is kept where the edge's set counts and arrives there, holds after it
+  one_holds : (P : ℕ → Type 0) (n e : ℕ) → e < m → (counted e ≡ true → get_or tos e 0 ≡ n → (x : ℕ) → P x → P (merge y x (get_or o e 0)))
+      → P (get_or (sums e) n 0) → P (get_or (sums (suc e)) n 0)
+  unfolding sums_to
+  one_holds P n e l f before = go (counted e) refl
     where
-      go : Dec (e ≡ d) → ((e ≡ d → ⊥) → Toward y (has (get_or o e 0) p) (has (get_or (ins d) (get_or tos e 0) 0) p))
-          → Toward y (has (get_or o e 0) p) (has (get_or (into y (ins d) (get_or tos d 0) (get_or o d 0)) (get_or tos e 0) 0) p)
-      go (yes q) f = rw (q, get_or-set_same (ins d) (get_or tos d 0) (merge y (get_or (ins d) (get_or tos d 0) 0) (get_or o d 0)) 0 (end_low d (omega arith))) (merge_right (get_or (ins d) (get_or tos d 0) 0) (get_or o d 0) p y)
-      go (no q) f = toward_trans y _ _ _ (f q) (into_keeps y (ins d) (get_or tos d 0) (get_or o d 0) (get_or tos e 0) p (end_low d (omega arith)))
+      go : (t : Bool) → counted e ≡ t → P (get_or (cond t (into y (sums e) (get_or tos e 0) (get_or o e 0)) (sums e)) n 0)
+      go false c = before
+      go true c =
+          set_holds (λ (a x : ℕ). (a ≡ n → P x)) (sums e) (get_or tos e 0) _ (end_low e l)
+          (λ q. f c q (get_or (sums e) (get_or tos e 0) 0) (rw q before)) n (λ _. before) refl
 
-  -- and nothing else
-  ins_below : (i n p : ℕ) (c : Bool) → i ≤ m → Toward y (has (get_or s n 0) p) c → ((e : ℕ) → e < i → get_or tos e 0 ≡ n → Toward y (has (get_or o e 0) p) c)
-      → Toward y (has (get_or (ins i) n 0) p) c
-  unfolding ins_to
-  ins_below zero n p c h base f = base
-  ins_below (suc e) n p c h base f =
-      let before : Toward y (has (get_or (ins e) n 0) p) c = ins_below e n p c (omega arith) base (λ d l. f d (omega arith)) in
-      set_holds (λ (a x : ℕ). (a ≡ n → Toward y (has x p) c)) (ins e) (get_or tos e 0) _ (end_low e (omega arith))
-      (λ q. merge_both (get_or (ins e) (get_or tos e 0) 0) (get_or o e 0) p y c (rw q before) (f e (omega arith) q)) n (λ _. before) refl
+  -- so it is with all edges
+  pub all_hold : (P : ℕ → Type 0) (n i : ℕ) → i ≤ m → ((e : ℕ) → e < m → counted e ≡ true → get_or tos e 0 ≡ n → (x : ℕ) → P x → P (merge y x (get_or o e 0)))
+      → P (get_or s n 0) → P (get_or (sums i) n 0)
+  unfolding sums_to
+  all_hold P n zero h f base = base
+  all_hold P n (suc e) h f base = one_holds P n e h (f e h) (all_hold P n e (omega arith) f base)
+
+  -- a sum keeps what it had
+  pub keeps : (i n p : ℕ) → i ≤ m → Toward y (has (get_or s n 0) p) (has (get_or (sums i) n 0) p)
+  keeps i n p h =
+      all_hold (λ (x : ℕ). Toward y (has (get_or s n 0) p) (has x p)) n i h
+      (λ e _ _ _ x before. toward_trans y _ _ _ before (merge_left x (get_or o e 0) p y)) (toward_refl y _)
+
+  -- and gets what each edge brings that counts
+  pub gets : (i e p : ℕ) → e < i → i ≤ m → counted e ≡ true → Toward y (has (get_or o e 0) p) (has (get_or (sums i) (get_or tos e 0) 0) p)
+  unfolding sums_to
+  gets zero e p l h c = absurd (omega arith)
+  gets (suc d) e p l h c = go (ℕ_discrete e d) (λ f. gets d e p (omega arith) (omega arith) c)
+    where
+      here : counted d ≡ true → Toward y (has (get_or o d 0) p) (has (get_or (sums (suc d)) (get_or tos d 0) 0) p)
+      here k =
+          rw (k, get_or-set_same (sums d) (get_or tos d 0) (merge y (get_or (sums d) (get_or tos d 0) 0) (get_or o d 0)) 0 (end_low d h))
+          (merge_right (get_or (sums d) (get_or tos d 0) 0) (get_or o d 0) p y)
+
+      go : Dec (e ≡ d) → ((e ≡ d → ⊥) → Toward y (has (get_or o e 0) p) (has (get_or (sums d) (get_or tos e 0) 0) p))
+          → Toward y (has (get_or o e 0) p) (has (get_or (sums (suc d)) (get_or tos e 0) 0) p)
+      go (yes q) f = rw q (here (rw q at c))
+      go (no q) f =
+          one_holds (λ (x : ℕ). Toward y (has (get_or o e 0) p) (has x p)) (get_or tos e 0) d h
+          (λ _ _ x before. toward_trans y _ _ _ before (merge_left x (get_or o d 0) p y)) (f q)
 
 -- ---- in(n)
 
 module _ (g : Graph) (acc : Acceptable g) (w o s q : List ℕ) (long : g.size.n ≤ length s) where
-  abbrev sums : System → List ℕ
-  sums y = ins_to g.edges.tos y o g.size.m s
+  abbrev arriving_all : System → List ℕ
+  arriving_all y = ins_to g y o g.size.m s
 
-  ends : (e : ℕ) → e < g.size.m → get_or g.edges.tos e 0 < length s
+  ends : (e : ℕ) → e < g.size.m → to_of g e < length s
   ends e l = omega (arith, (acc.edges e l).to_node)
 
   module _ (y : System) (b : Begun y g.size.k g.size.n g.nodes.checks g.nodes.entries g.nodes.grants s q) (n p : ℕ) (u : n < g.size.n) (k : p < g.size.k) where
-    toward : Toward y (has (get_or (sums y) n 0) p) (in_set g y (held o) n p)
+    toward : Toward y (has (get_or (arriving_all y) n 0) p) (in_set g y (held o) n p)
     toward =
-        ins_below g.edges.tos y o s g.size.m ends g.size.m n p (in_set g y (held o) n p) (omega arith)
+        all_hold g.edges.tos y o (λ e. true) s g.size.m ends (λ (x : ℕ). Toward y (has x p) (in_set g y (held o) n p)) n g.size.m (omega arith)
+        (λ e l _ c x before. merge_both x (get_or o e 0) p y (in_set g y (held o) n p) before (rw c at (edge_toward g e p l k y (held o))))
         (begun_below g y acc w s q b (held o) n p u k)
-        (λ e l c. rw c at (edge_toward g e p l k y (held o)))
 
-    by_entry : get_or g.nodes.entries n 0 ≡ 1 → Toward y (has (get_or g.nodes.grants n 0) p) (has (get_or (sums y) n 0) p)
+    by_entry : get_or g.nodes.entries n 0 ≡ 1 → Toward y (has (get_or g.nodes.grants n 0) p) (has (get_or (arriving_all y) n 0) p)
     by_entry e =
         toward_trans y _ _ _ ((begun_good g y acc w s q b).s_entry n p u k e)
-        (ins_keeps g.edges.tos y o s g.size.m ends g.size.m n p (omega arith))
+        (keeps g.edges.tos y o (λ e. true) s g.size.m ends g.size.m n p (omega arith))
 
-    by_edges : (e : ℕ) → e < g.size.m → to_of g e ≡ n → Toward y (has (get_or o e 0) p) (has (get_or (sums y) n 0) p)
-    by_edges e l c = rw c at (ins_gets g.edges.tos y o s g.size.m ends g.size.m e p l (omega arith))
+    by_edges : (e : ℕ) → e < g.size.m → to_of g e ≡ n → Toward y (has (get_or o e 0) p) (has (get_or (arriving_all y) n 0) p)
+    by_edges e l c = rw c at (gets g.edges.tos y o (λ e. true) s g.size.m ends g.size.m e p l (omega arith) refl)
 
   pub gathered_in : (y : System) → Begun y g.size.k g.size.n g.nodes.checks g.nodes.entries g.nodes.grants s q
-      → (n p : ℕ) → n < g.size.n → p < g.size.k → has (get_or (sums y) n 0) p ≡ in_set g y (held o) n p
+      → (n p : ℕ) → n < g.size.n → p < g.size.k → has (get_or (arriving_all y) n 0) p ≡ in_set g y (held o) n p
   gathered_in may b n p u k = same_bool _ _ (toward may b n p u k) (λ t. let r = (in_may g (held o) n p).0 t in back r.0 r.1 r.2)
     where
-      back : (x : Arrival) → Arrives g n x → arriving g (held o) n x p ≡ true → has (get_or (sums may) n 0) p ≡ true
+      back : (x : Arrival) → Arrives g n x → arriving g (held o) n x p ≡ true → has (get_or (arriving_all may) n 0) p ≡ true
       back x (by_mark m) v = by_entry may b n p u k (eqb-true _ 1 m) (sym (arriving_mark g (held o) n p) ∙ v)
       back x (by_edge e l c) v = by_edges may b n p u k e l c (sym (arriving_edge g (held o) n e p) ∙ v)
   gathered_in sure b n p u k = same_bool _ _ (λ t. (in_sure g (held o) n p).1 (back t)) (toward sure b n p u k)
     where
-      back : has (get_or (sums sure) n 0) p ≡ true → (x : Arrival) → Arrives g n x → arriving g (held o) n x p ≡ true
+      back : has (get_or (arriving_all sure) n 0) p ≡ true → (x : Arrival) → Arrives g n x → arriving g (held o) n x p ≡ true
       back t x (by_mark m) = arriving_mark g (held o) n p ∙ by_entry sure b n p u k (eqb-true _ 1 m) t
       back t x (by_edge e l c) = arriving_edge g (held o) n e p ∙ by_edges sure b n p u k e l c t
-
--- ---- the sums of what passes, while edges arrive
-
-cond_keeps : (y : System) (t : Bool) (l : List ℕ) (b v n p : ℕ) → b < length l → Toward y (has (get_or l n 0) p) (has (get_or (cond t (into y l b v) l) n 0) p)
-cond_keeps y true l b v n p h = into_keeps y l b v n p h
-cond_keeps y false l b v n p h = toward_refl y _
-
-cond_long : (y : System) (t : Bool) (l : List ℕ) (b v : ℕ) → length (cond t (into y l b v) l) ≡ length l
-cond_long y true l b v = length-set l b _
-cond_long y false l b v = refl
-
-module _ (g : Graph) (acc : Acceptable g) (y : System) (w o q : List ℕ) (ends : (e : ℕ) → e < g.size.m → get_or g.edges.tos e 0 < length q)
-    (few : (e : ℕ) → e < g.size.m → get_or o e 0 < 2 ^ g.size.k) where
-  abbrev past : ℕ → List ℕ
-  past i = past_to g.nodes.kinds g.nodes.checks g.edges.tos y w o i q
-
-  past_long : (i : ℕ) → length (past i) ≡ length q
-  unfolding past_to
-  past_long zero = refl
-  past_long (suc e) = cond_long y (counts g y w e (get_or o e 0)) (past e) (to_of g e) (get_or o e 0) ∙ past_long e
-
-  past_end : (e : ℕ) → e < g.size.m → to_of g e < length (past e)
-  past_end e l = rw (past_long e) (ends e l)
-
-  past_keeps : (i n p : ℕ) → i ≤ g.size.m → Toward y (has (get_or q n 0) p) (has (get_or (past i) n 0) p)
-  unfolding past_to
-  past_keeps zero n p h = toward_refl y _
-  past_keeps (suc e) n p h =
-      toward_trans y _ _ _ (past_keeps e n p (omega arith)) (cond_keeps y (counts g y w e (get_or o e 0)) (past e) (to_of g e) (get_or o e 0) n p (past_end e (omega arith)))
-
-  past_gets : (i e p : ℕ) → e < i → i ≤ g.size.m → counts g y w e (get_or o e 0) ≡ true → Toward y (has (get_or o e 0) p) (has (get_or (past i) (to_of g e) 0) p)
-  unfolding past_to
-  past_gets zero e p l h c = absurd (omega arith)
-  past_gets (suc d) e p l h c = go (ℕ_discrete e d) (λ f. past_gets d e p (omega arith) (omega arith) c)
-    where
-      go : Dec (e ≡ d) → ((e ≡ d → ⊥) → Toward y (has (get_or o e 0) p) (has (get_or (past d) (to_of g e) 0) p))
-          → Toward y (has (get_or o e 0) p) (has (get_or (cond (counts g y w d (get_or o d 0)) (into y (past d) (to_of g d) (get_or o d 0)) (past d)) (to_of g e) 0) p)
-      go (yes r) f =
-          let c' : counts g y w d (get_or o d 0) ≡ true = rw r at c in
-          rw (r, c', get_or-set_same (past d) (to_of g d) (merge y (get_or (past d) (to_of g d) 0) (get_or o d 0)) 0 (past_end d (omega arith))) (merge_right (get_or (past d) (to_of g d) 0) (get_or o d 0) p y)
-      go (no r) f = toward_trans y _ _ _ (f r) (cond_keeps y (counts g y w d (get_or o d 0)) (past d) (to_of g d) (get_or o d 0) (to_of g e) p (past_end d (omega arith)))
-
-  past_no_more : (i n p : ℕ) → i ≤ g.size.m → p < g.size.k → PastBelow g y w (held o) n p (has (get_or q n 0) p) → PastBelow g y w (held o) n p (has (get_or (past i) n 0) p)
-  unfolding past_to
-  past_no_more zero n p h k base = base
-  past_no_more (suc e) n p h k base = go (counts g y w e (get_or o e 0)) refl (past_no_more e n p (omega arith) k base)
-    where
-      go : (t : Bool) → counts g y w e (get_or o e 0) ≡ t → PastBelow g y w (held o) n p (has (get_or (past e) n 0) p)
-          → PastBelow g y w (held o) n p (has (get_or (cond t (into y (past e) (to_of g e) (get_or o e 0)) (past e)) n 0) p)
-      go false c before = before
-      go true c before =
-          set_holds (λ (a x : ℕ). (a ≡ n → PastBelow g y w (held o) n p (has x p))) (past e) (to_of g e) (merge y (get_or (past e) (to_of g e) 0) (get_or o e 0)) (past_end e (omega arith))
-          (λ r. subst (λ (a : ℕ). PastBelow g y w (held o) a p (has (merge y (get_or (past e) (to_of g e) 0) (get_or o e 0)) p)) r (edge_past g e p (omega arith) k y w (held o) (get_or (past e) (to_of g e) 0) (get_or o e 0) (few e (omega arith)) (λ p' _. toward_refl y _) c (rw r before))) n (λ _. before) refl
 
 -- ---- what is past a check n
 
 module _ (g : Graph) (acc : Acceptable g) (w o s q : List ℕ) (long : g.size.n ≤ length q) (few : (e : ℕ) → e < g.size.m → get_or o e 0 < 2 ^ g.size.k)
     (n p : ℕ) (u : n < g.size.n) (k : p < g.size.k) (i : is_check g n ≡ true) where
-  q_ends : (e : ℕ) → e < g.size.m → get_or g.edges.tos e 0 < length q
+  q_ends : (e : ℕ) → e < g.size.m → to_of g e < length q
   q_ends e l = omega (arith, (acc.edges e l).to_node)
 
+  abbrev counted : System → ℕ → Bool
+  counted y e = counts g y w e (get_or o e 0)
+
   abbrev passing : System → ℕ
-  passing y = get_or (past_to g.nodes.kinds g.nodes.checks g.edges.tos y w o g.size.m q) n 0
+  passing y = get_or (past_to g y w o g.size.m q) n 0
 
   module _ (y : System) (b : Begun y g.size.k g.size.n g.nodes.checks g.nodes.entries g.nodes.grants s q) where
     no_more : PastBelow g y w (held o) n p (has (passing y) p)
-    no_more = past_no_more g acc y w o q q_ends few g.size.m n p (omega arith) k (begun_past_below g y acc w s q b (held o) n p u k)
+    no_more =
+        all_hold g.edges.tos y o (counted y) q g.size.m q_ends (λ (x : ℕ). PastBelow g y w (held o) n p (has x p)) n g.size.m (omega arith)
+        (λ e l c r x before. one e l c r x before)
+        (begun_past_below g y acc w s q b (held o) n p u k)
+      where
+        one : (e : ℕ) → e < g.size.m → counted y e ≡ true → to_of g e ≡ n → (x : ℕ) → PastBelow g y w (held o) n p (has x p) → PastBelow g y w (held o) n p (has (merge y x (get_or o e 0)) p)
+        one e l c r x before =
+            subst (λ (a : ℕ). PastBelow g y w (held o) a p (has (merge y x (get_or o e 0)) p)) r
+            (edge_past g e p l k y w (held o) x (get_or o e 0) (few e l) (λ p' _. toward_refl y _) c (rw r before))
 
     of_entry : get_or g.nodes.entries n 0 ≡ 1 → has (get_or g.nodes.grants n 0) (get_or g.nodes.checks n 0) ≡ true → Toward y (has (get_or g.nodes.grants n 0) p) (has (passing y) p)
     of_entry e h =
-        toward_trans y _ _ _ ((begun_good g y acc w s q b).q_entry n p u k e h) (past_keeps g acc y w o q q_ends few g.size.m n p (omega arith))
+        toward_trans y _ _ _ ((begun_good g y acc w s q b).q_entry n p u k e h) (keeps g.edges.tos y o (counted y) q g.size.m q_ends g.size.m n p (omega arith))
 
-    of_edge : (e : ℕ) → e < g.size.m → to_of g e ≡ n → counts g y w e (get_or o e 0) ≡ true → Toward y (has (get_or o e 0) p) (has (passing y) p)
-    of_edge e l c t = rw c at (past_gets g acc y w o q q_ends few g.size.m e p l (omega arith) t)
+    of_edge : (e : ℕ) → e < g.size.m → to_of g e ≡ n → counted y e ≡ true → Toward y (has (get_or o e 0) p) (has (passing y) p)
+    of_edge e l c t = rw c at (gets g.edges.tos y o (counted y) q g.size.m q_ends g.size.m e p l (omega arith) t)
 
   -- for MAY it is what arrives and passes
   pub gathered_past : Begun may g.size.k g.size.n g.nodes.checks g.nodes.entries g.nodes.grants s q → has (passing may) p ≡ past_set g (held o) may (held o) n p
@@ -209,7 +184,7 @@ module _ (g : Graph) (acc : Acceptable g) (w o s q : List ℕ) (long : g.size.n 
 -- ---- what the call stores of an accepted graph
 
 module _ (g : Graph) (acc : Acceptable g) (y : System) (w o s q : List ℕ) (ls : g.size.n ≤ length s) (lq : g.size.n ≤ length q) (lw : g.size.m ≤ length w) (lo : g.size.m ≤ length o) where
-  can_send : Gatherable (length g.nodes.kinds) (length g.nodes.checks) (length w) (length o) g.edges.tos
+  can_send : Gatherable g w o
   can_send =
       let n = acc.shape.nodes in
       record {
@@ -220,7 +195,7 @@ module _ (g : Graph) (acc : Acceptable g) (y : System) (w o s q : List ℕ) (ls 
         ends = λ e l. rw n.kinds (acc.edges e (omega (arith, acc.shape.edges.tos))).to_node;
       }
 
-  can_begin : Room (length g.nodes.kinds) (length s) (length q) (length g.nodes.checks) (length g.nodes.entries) (length g.nodes.grants)
+  can_begin : Room (nodes g) g.nodes s q
   can_begin =
       let n = acc.shape.nodes in
       record { ins_long = omega (arith, n.kinds); past_long = omega (arith, n.kinds); checks_long = omega arith; entries_long = omega arith; grants_long = omega arith }
@@ -232,10 +207,10 @@ module _ (g : Graph) (acc : Acceptable g) (y : System) (w o s q : List ℕ) (ls 
     pub s_long : length s₀ ≡ length s
     pub q_long : length q₀ ≡ length q
     pub first : Begun y g.size.k g.size.n g.nodes.checks g.nodes.entries g.nodes.grants s₀ q₀
-    pub ins_is : s' ≡ ins_to g.edges.tos y o g.size.m s₀
-    pub past_is : q' ≡ past_to g.nodes.kinds g.nodes.checks g.edges.tos y w o g.size.m q₀
+    pub ins_is : s' ≡ ins_to g y o g.size.m s₀
+    pub past_is : q' ≡ past_to g y w o g.size.m q₀
 
-  pub gathers_stores : {r : Bool} {s' q' : List ℕ} → Gathers y g.size.k g.nodes.kinds g.nodes.checks g.nodes.entries g.nodes.grants g.edges.tos w o s q r s' q' → Stores s' q'
+  pub gathers_stores : {r : Bool} {s' q' : List ℕ} → Gathers g y w o s q r s' q' → Stores s' q'
   gathers_stores (gathered {s₀ = s₀} {q₀ = q₀} h (begun _ b)) = record {
     s₀ = s₀;
     q₀ = q₀;
@@ -249,7 +224,7 @@ module _ (g : Graph) (acc : Acceptable g) (y : System) (w o s q : List ℕ) (ls 
   gathers_stores (unbegun (kept d)) = absurd (d can_begin)
 
   -- so the sums are in(n) of the out sets
-  pub gathers_in : {r : Bool} {s' q' : List ℕ} → Gathers y g.size.k g.nodes.kinds g.nodes.checks g.nodes.entries g.nodes.grants g.edges.tos w o s q r s' q'
+  pub gathers_in : {r : Bool} {s' q' : List ℕ} → Gathers g y w o s q r s' q'
       → (n p : ℕ) → n < g.size.n → p < g.size.k → has (get_or s' n 0) p ≡ in_set g y (held o) n p
   gathers_in f n p u k =
       let t = gathers_stores f in
@@ -259,7 +234,7 @@ module _ (g : Graph) (acc : Acceptable g) (y : System) (w o s q : List ℕ) (ls 
 
 module _ (g : Graph) (acc : Acceptable g) (w o s q a : List ℕ) (ls : g.size.n ≤ length s) (lq : g.size.n ≤ length q) (lw : g.size.m ≤ length w) (lo : g.size.m ≤ length o)
     (few : (e : ℕ) → e < g.size.m → get_or o e 0 < 2 ^ g.size.k) where
-  pub may_round : {r : Bool} {s' q' : List ℕ} → Gathers may g.size.k g.nodes.kinds g.nodes.checks g.nodes.entries g.nodes.grants g.edges.tos w o s q r s' q'
+  pub may_round : {r : Bool} {s' q' : List ℕ} → Gathers g may w o s q r s' q'
       → (e p : ℕ) → e < g.size.m → p < g.size.k → has (carried g may a s' q' e) p ≡ out_set g (held o) may (held o) e p
   unfolding past_num
   may_round {s' = s'} {q' = q'} f e p l k =
@@ -282,7 +257,7 @@ module _ (g : Graph) (acc : Acceptable g) (w o s q a : List ℕ) (ls : g.size.n 
       past_is i = rw t.past_is (gathered_past g acc w o t.s₀ t.q₀ (omega (arith, t.q_long)) few n p low k i t.first)
 
   -- a says of every check whether anything passes it, by MAY's out sets w
-  pub sure_round : AnyPasses g sure w a → {r : Bool} {s' q' : List ℕ} → Gathers sure g.size.k g.nodes.kinds g.nodes.checks g.nodes.entries g.nodes.grants g.edges.tos w o s q r s' q'
+  pub sure_round : AnyPasses g sure w a → {r : Bool} {s' q' : List ℕ} → Gathers g sure w o s q r s' q'
       → (e p : ℕ) → e < g.size.m → p < g.size.k → has (carried g sure a s' q' e) p ≡ out_set g (held w) sure (held o) e p
   sure_round any {s' = s'} {q' = q'} f e p l k =
       has_carried g sure a s' q' e p ∙ same_bool _ _ (out_rule_mono g e p _ _ _ _ (λ t. sym in_is ∙ t) past_onward) (out_rule_mono g e p _ _ _ _ (λ t. in_is ∙ t) past_from)

@@ -2,45 +2,42 @@
 #![tactic(auto)]
 
 ghost use Rattle.std.specs.Prelude.{◌≡◌, length};
-ghost use Rattle.writer.specs.Writer.{Puts};
-ghost use Rattle.refusals.specs.Writes.{refusal_row, refusal_bytes, Writes};
+ghost use Rattle.writer.specs.Writer.{Adds};
+ghost use Rattle.refusals.specs.Writes.{refusal_bytes, Writes};
 
 use graph::Refusal;
+use writer::Writer;
 
-// How many bytes were written, or why none was.
-#[derive(Drop)]
-pub enum Written {
-    Bytes(usize),
-    Refused(Refusal),
+fn put_refusal(row: &mut Writer, why: Refusal)
+    ensures { Adds (refusal_bytes why) row.old row.new }
+{
+    row.put_all(b"refused,");
+    row.put_number(why.number());
+    row.put(b',');
+    row.put_number(why.place());
+    row.put_all(b"\r\n");
 }
 
-fn put_refusal(out: &mut [u8], number: usize, place: usize) -> usize
-    ensures { Puts (refusal_row number place) out.old 0 result out.new }
+fn count_refusal(why: Refusal) -> usize
+    ensures { result ≡ length (refusal_bytes why) }
 {
-    let a = writer::put_all(out, 0, b"refused,");
-    let b = writer::put_number(out, a, number);
-    let c = writer::put(out, b, b',');
-    let d = writer::put_number(out, c, place);
-    writer::put_all(out, d, b"\r\n")
-}
-
-fn count_refusal(number: usize, place: usize) -> usize
-    ensures { result ≡ length (refusal_row number place) }
-{
-    let mut nowhere = [0u8; 0];
-    put_refusal(&mut nowhere, number, place)
+    let mut row = Writer {
+        out: &mut [],
+        at: 0,
+    };
+    put_refusal(&mut row, why);
+    row.at
 }
 
 // Writes a refusal's row at the start of a buffer.
-pub fn write_refusal(out: &mut [u8], why: Refusal) -> Written
+pub fn write_refusal(out: &mut [u8], why: Refusal) -> Result<usize, Refusal>
     ensures { Writes (refusal_bytes why) out.old result out.new }
 {
-    let number = why.number();
-    let place = why.place();
-    let needed = count_refusal(number, place);
+    let needed = count_refusal(why);
     if out.len() < needed {
-        return Written::Refused(Refusal::NoRoom);
+        return Err(Refusal::NoRoom);
     }
-    put_refusal(out, number, place);
-    Written::Bytes(needed)
+    let mut row = Writer { out, at: 0 };
+    put_refusal(&mut row, why);
+    Ok(row.at)
 }

@@ -71,3 +71,9 @@ adds_next bytes i h a b = adds_as (take_more bytes i h) (adds_then a b)
 
 pub adds_all : {u v : Writer} (bytes : List ℕ) (i : ℕ) → length bytes ≤ i → Adds (take i bytes) u v → Adds bytes u v
 adds_all bytes i h a = adds_as (take_all i bytes h) a
+
+-- a writer that began at the start of its buffer has counted what it added
+pub adds_count : {bytes : List ℕ} {u v : Writer} → Adds bytes u v → u.at ≡ 0 → length u.out.now ≤ last_place → length bytes ≤ last_place → v.at ≡ length bytes
+adds_count a z k h =
+    let p = a.puts (record { place = omega (arith, z); buffer = k }) in
+    omega (arith, p.answer, z, h)

@@ -1,5 +1,6 @@
 -- The parts of a step: where it writes, and what an inspection's answer says of the check on top.
-use Rattle.std.specs.Prelude.{ℕ, ◌<◌, ◌≤◌, ◌≡◌, refl, List, Option, Some, None, true, false, get_or}
+use Rattle.std.specs.Prelude.{ℕ, ◌<◌, ◌≤◌, ◌≡◌, refl, List, Bool, Option, Some, None, true, false, get_or}
+use Rattle.std.specs.Bool.{then_some}
 use Rattle.std.proofs.Common.{arith}
 use Rattle.graph.specs.Graph.{Graph, Leads}
 use Rattle.stacks.specs.Machine.{Inspected}
@@ -14,32 +15,28 @@ pub data Placed (g : Graph) (stack : List ℕ) (height next : ℕ) : Option ℕ 
   nowhere : ((place : ℕ) → RuleOf g stack height next place → ⊥) → Placed g stack height next None
 
 module _ (g : Graph) {stack : List ℕ} {height next : ℕ} where
-  -- no rule leads to the next node
-  pub no_place : (height ≡ 0 → get_or g.nodes.entries next 0 ≡ 1 → ⊥)
+  -- none of the four rules leads to the next node
+  pub no_rule : (height ≡ 0 → get_or g.nodes.entries next 0 ≡ 1 → ⊥)
       → (0 < height → get_or g.nodes.kinds (top stack height) 0 ≡ 0 → Leads g 0 (top stack height) next → ⊥)
       → (0 < height → get_or g.nodes.kinds (top stack height) 0 ≡ 2 → Leads g 1 (top stack height) next → ⊥)
       → (1 < height → get_or g.nodes.kinds (top stack height) 0 ≡ 1 → Leads g 1 (lower stack height) next → ⊥)
-      → Placed g stack height next None
-  no_place e c p b = nowhere go
-    where
-      go : (place : ℕ) → RuleOf g stack height next place → ⊥
-      go _ (Rule.enter h t) = e h t
-      go _ (Rule.call h t l) = c h t l
-      go _ (Rule.pass h t l) = p h t l
-      go _ (Rule.back h t l) = b h t l
+      → (place : ℕ) → RuleOf g stack height next place → ⊥
+  no_rule e c p b _ (Rule.enter h t) = e h t
+  no_rule e c p b _ (Rule.call h t l) = c h t l
+  no_rule e c p b _ (Rule.pass h t l) = p h t l
+  no_rule e c p b _ (Rule.back h t l) = b h t l
+
+  -- a test of the one rule that may lead there
+  pub placed_if : (p : ℕ) (v : Bool) → (v ≡ true → RuleOf g stack height next p) → (v ≡ false → (q : ℕ) → RuleOf g stack height next q → ⊥)
+      → Placed g stack height next (then_some v p)
+  placed_if p true y n = somewhere (y refl)
+  placed_if p false y n = nowhere (n refl)
 
   pub found : {p : ℕ} → Placed g stack height next (Some p) → RuleOf g stack height next p
   found (somewhere u) = u
 
   pub none_found : Placed g stack height next None → (p : ℕ) → RuleOf g stack height next p → ⊥
   none_found (nowhere d) = d
-
-  -- a place that is found is at most the height
-  pub place_low : {p : ℕ} → RuleOf g stack height next p → p ≤ height
-  place_low (Rule.enter e t) = omega arith
-  place_low (Rule.call l k j) = omega arith
-  place_low (Rule.pass l k j) = omega arith
-  place_low (Rule.back l k j) = omega arith
 
 -- ---- what an inspection's answer says
 

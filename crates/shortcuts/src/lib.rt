@@ -1,364 +1,268 @@
 // Reads a node's or an edge's row, and those whose fields are all short in one pass.
 #![tactic(auto)]
 
-ghost use Rattle.std.specs.Prelude.{◌≡◌, ◌+◌, ◌≤◌, length};
+ghost use Rattle.std.specs.Prelude.{◌≡◌, ◌+◌, ◌≤◌, length, get_or, slice_get, IfSome};
 ghost use Rattle.truth.specs.Truth.{Says};
+ghost use Rattle.scan.specs.Scan.{listed};
 ghost use Rattle.fields.specs.declared.Form.{Form};
-ghost use Rattle.records.specs.Records.{grants_at, lead_at, node_at, edge_at, granted_of, lead_row_of, node_row_of, edge_row_of};
-ghost use Rattle.shortcuts.specs.Shortcuts.Short.{Quick, Shows, digit_of, Digits, Short, letter_at, EndsEmpty, EndsGrants};
+ghost use Rattle.records.specs.Records.{read_as, kept, grants_at, lead_at, node_at, edge_at};
+ghost use Rattle.shortcuts.specs.Shortcuts.Short.{Quick, digit_of, Numeral, Stands, Short, TagsLetter, EndsRow};
 
 use fields;
+use fields::Form;
+use graph::{Edge, Node};
 use records;
-use records::{Edge, EdgeRow, Granted, Lead, LeadRow, Node, NodeRow};
+use records::Lead;
 use scan;
+use scan::{At, Listed};
 
-// Most fields are short and have no quotes. The functions below know such a field by its bytes, and answer eight times what it says and how
-// many bytes it takes with its comma; or 0 of any other field, which is left to `records`. They ask for more bytes than they look at.
-const EMPTY: usize = 1;
+// Most fields are short and have no quotes. The functions below know such a field by its bytes, and say nothing of any other, which is left to
+// `records`. A short field takes fewer bytes with its comma than this: they ask for so many more than they look at.
+const FIELD_ROOM: usize = 8;
 
-const LETTER_SAYS_0: usize = 2;
+// Room for a grant and what follows it.
+const GRANT_ROOM: usize = 2 * FIELD_ROOM;
 
-const LETTER_SAYS_1: usize = 10;
+// Room for a row of short fields, but for a node's grants.
+const ROW_ROOM: usize = 5 * FIELD_ROOM;
 
-const LETTER_SAYS_2: usize = 18;
+// The letters of a node's kinds and of an edge's, each at its number.
+const NODE_LETTERS: [u8; 3] = [b'C', b'R', b'K'];
 
-const BOTH_MARKS: usize = 27;
-
-const ROW_ROOM: usize = 40;
-
-const GRANT_ROOM: usize = 16;
+const EDGE_LETTERS: [u8; 2] = [b'C', b'T'];
 
 fn has_room(s: &[u8], at: usize, count: usize) -> bool
     ensures { Says (at + count ≤ length s.now) result }
 {
-    if s.len() < count {
-        return false;
-    }
-    at <= s.len() - count
+    count <= s.len() && at <= s.len() - count
 }
 
-// The digit that a byte is, or a number above 9.
-fn digit(b: u8) -> usize
+// The digit that a byte is.
+fn digit(b: u8) -> Option<usize>
     ensures { result ≡ digit_of b }
 {
-    if b < b'0' {
-        return 10;
-    }
-    (b - b'0') as usize
+    b.is_ascii_digit().then(|| usize::from(b - b'0'))
 }
 
-// A number of one to four digits, whatever follows them: eight times it and how many they are.
-fn short_digits(s: &[u8], at: usize) -> usize
-    requires { at + 8 ≤ length s.now }
-    ensures { Digits s.now at result }
+// A number of one to four digits, whatever follows them.
+fn short_number(s: &[u8], at: usize) -> Option<At<usize>>
+    requires { at + FIELD_ROOM ≤ length s.now }
+    ensures { IfSome result (Numeral s.now at) }
 {
-    let a = digit(s[at]);
-    if 9 < a {
-        return 0;
+    let mut value = digit(s[at])?;
+    for next in at + 1..at + fields::MOST_DIGITS {
+        let Some(d) = digit(s[next]) else {
+            return Some(At { value, next });
+        };
+        if value == 0 {
+            return None;
+        }
+        value = value * 10 + d;
     }
-    let b = digit(s[at + 1]);
-    if 9 < b {
-        return a * 8 + 1;
-    }
-    if a == 0 {
-        return 0;
-    }
-    let c = digit(s[at + 2]);
-    if 9 < c {
-        return (a * 10 + b) * 8 + 2;
-    }
-    let d = digit(s[at + 3]);
-    if 9 < d {
-        return (a * 100 + b * 10 + c) * 8 + 3;
-    }
-    (a * 1000 + b * 100 + c * 10 + d) * 8 + 4
+    Some(At {
+        value,
+        next: at + fields::MOST_DIGITS,
+    })
 }
 
-fn short_number(s: &[u8], at: usize) -> usize
-    requires { at + 8 ≤ length s.now }
-    ensures { Short Form.Number s.now at result }
+// One of some letters, by its place among them.
+fn short_letter(s: &[u8], at: usize, letters: &[u8]) -> Option<At<usize>>
+    requires { at + FIELD_ROOM ≤ length s.now }
+    ensures { IfSome result (λ x. (slice_get letters.now x.value ≡ Some (get_or s.now at 0)) × (x.next ≡ at + 1)) }
 {
-    let x = short_digits(s, at);
-    if x == 0 {
-        return 0;
-    }
-    if s[at + x % 8] == b',' {
-        return x + 1;
-    }
-    0
+    let value = letters.iter().position(|l| *l == s[at])?;
+    Some(At {
+        value,
+        next: at + 1,
+    })
 }
 
-// The byte at a position where a comma follows it; else 0.
-fn short_letter(s: &[u8], at: usize) -> u8
-    requires { at + 8 ≤ length s.now }
-    ensures { result ≡ letter_at s.now at }
+// The marks of a node.
+fn short_marks(s: &[u8], at: usize) -> At<usize>
+    requires { at + FIELD_ROOM ≤ length s.now }
+    ensures { Stands Form.Marks s.now at result }
 {
-    if s[at + 1] == b',' {
-        return s[at];
+    match (s[at], s[at + 1]) {
+        (b'P', b'E') => At {
+            value: fields::MARK_BOTH,
+            next: at + 2,
+        },
+        (b'P', _) => At {
+            value: fields::MARK_PRIVILEGED,
+            next: at + 1,
+        },
+        (b'E', _) => At {
+            value: fields::MARK_ENTRY,
+            next: at + 1,
+        },
+        _ => At { value: 0, next: at },
     }
-    0
 }
 
-fn short_kind(s: &[u8], at: usize) -> usize
-    requires { at + 8 ≤ length s.now }
-    ensures { Short Form.Kind s.now at result }
+// A short field of a form, and where it ends if it is one.
+fn short_part(s: &[u8], at: usize, form: Form) -> Option<At<usize>>
+    requires room { at + FIELD_ROOM ≤ length s.now }
+    requires letter { TagsLetter form }
+    ensures { IfSome result (Stands form s.now at) }
 {
-    let b = short_letter(s, at);
-    if b == b'C' {
-        return LETTER_SAYS_0;
-    }
-    if b == b'R' {
-        return LETTER_SAYS_1;
-    }
-    if b == b'K' {
-        return LETTER_SAYS_2;
-    }
-    0
-}
-
-fn short_way(s: &[u8], at: usize) -> usize
-    requires { at + 8 ≤ length s.now }
-    ensures { Short Form.Way s.now at result }
-{
-    let b = short_letter(s, at);
-    if b == b'C' {
-        return LETTER_SAYS_0;
-    }
-    if b == b'T' {
-        return LETTER_SAYS_1;
-    }
-    0
-}
-
-fn short_check(s: &[u8], at: usize, kind: usize) -> usize
-    requires { at + 8 ≤ length s.now }
-    ensures { Short (Form.Check kind) s.now at result }
-{
-    if kind == fields::CHECK_NODE {
-        return short_number(s, at);
-    }
-    if s[at] == b',' {
-        return EMPTY;
-    }
-    0
-}
-
-fn short_marks(s: &[u8], at: usize) -> usize
-    requires { at + 8 ≤ length s.now }
-    ensures { Short Form.Marks s.now at result }
-{
-    if s[at] == b',' {
-        return EMPTY;
-    }
-    let b = short_letter(s, at);
-    if b == b'P' {
-        return LETTER_SAYS_1;
-    }
-    if b == b'E' {
-        return LETTER_SAYS_2;
-    }
-    if s[at] == b'P' {
-        if s[at + 1] == b'E' {
-            if s[at + 2] == b',' {
-                return BOTH_MARKS;
+    match form {
+        Form::Tag(letter) => short_letter(s, at, &[letter]),
+        Form::Number => short_number(s, at),
+        Form::Own(i) => {
+            let own = short_number(s, at)?;
+            (own.value == i).then_some(own)
+        }
+        Form::Kind => short_letter(s, at, &NODE_LETTERS),
+        Form::Check(kind) => {
+            if kind == fields::CHECK_NODE {
+                short_number(s, at)
+            } else {
+                Some(At { value: 0, next: at })
             }
         }
+        Form::Marks => Some(short_marks(s, at)),
+        Form::Way => short_letter(s, at, &EDGE_LETTERS),
+        Form::Empty => Some(At { value: 0, next: at }),
     }
-    0
 }
 
-// The front of a node row whose fields are all short. Wrong says nothing of the row.
-fn quick_lead(s: &[u8], at: usize, i: usize) -> LeadRow
-    ensures { Quick LeadRow.Wrong (lead_row_of (lead_at s.now at i)) result }
+// A short field of a form that a comma follows.
+fn short_field(s: &[u8], at: usize, form: Form) -> Option<At<usize>>
+    requires room { at + FIELD_ROOM ≤ length s.now }
+    requires letter { TagsLetter form }
+    ensures { IfSome result (Short form s.now at) }
+{
+    let At { value, next: end } = short_part(s, at, form)?;
+    (s[end] == b',').then_some(At {
+        value,
+        next: end + 1,
+    })
+}
+
+fn ends_row(s: &[u8], at: usize) -> bool
+    requires { at + 2 ≤ length s.now }
+    ensures { Says (EndsRow s.now at) result }
+{
+    s[at] == b'\r' && s[at + 1] == b'\n'
+}
+
+// The front of a node row whose fields are all short.
+#[tactic(auto, unfolding(records::specs::Records::lead_at))]
+fn quick_lead(s: &[u8], at: usize, i: usize) -> Option<At<Lead>>
+    ensures { Quick (lead_at s.now at i) result }
 {
     if !has_room(s, at, ROW_ROOM) {
-        return LeadRow::Wrong;
+        return None;
     }
-    if short_letter(s, at) != b'N' {
-        return LeadRow::Wrong;
-    }
-    let own = short_number(s, at + 2);
-    if own == 0 {
-        return LeadRow::Wrong;
-    }
-    if own / 8 != i {
-        return LeadRow::Wrong;
-    }
-    let a = at + 2 + own % 8;
-    let kind = short_kind(s, a);
-    if kind == 0 {
-        return LeadRow::Wrong;
-    }
-    let b = a + kind % 8;
-    let check = short_check(s, b, kind / 8);
-    if check == 0 {
-        return LeadRow::Wrong;
-    }
-    let c = b + check % 8;
-    let marks = short_marks(s, c);
-    if marks == 0 {
-        return LeadRow::Wrong;
-    }
-    LeadRow::At {
-        lead: Lead {
-            kind: kind / 8,
-            check: check / 8,
-            marks: marks / 8,
+    let tag = short_field(s, at, Form::Tag(b'N'))?;
+    let own = short_field(s, tag.next, Form::Own(i))?;
+    let kind = short_field(s, own.next, Form::Kind)?;
+    let check = short_field(s, kind.next, Form::Check(kind.value))?;
+    let marks = short_field(s, check.next, Form::Marks)?;
+    Some(At {
+        value: Lead {
+            kind: kind.value,
+            check: check.value,
+            marks: marks.value,
         },
-        next: c + marks % 8,
-    }
+        next: marks.next,
+    })
 }
 
-fn read_lead(s: &[u8], at: usize, i: usize) -> LeadRow
-    ensures { result ≡ lead_row_of (lead_at s.now at i) }
+fn read_lead(s: &[u8], at: usize, i: usize) -> Option<At<Lead>>
+    ensures { result ≡ lead_at s.now at i }
 {
-    match quick_lead(s, at, i) {
-        LeadRow::At { lead, next } => LeadRow::At { lead, next },
-        LeadRow::Wrong => records::read_lead(s, at, i),
-    }
+    quick_lead(s, at, i).or_else(|| records::read_lead(s, at, i))
 }
 
-// Grants of these bits, where the row's end follows.
-fn end_grants(s: &[u8], at: usize, bits: u64) -> Granted
-    requires { at + 2 ≤ length s.now }
-    ensures { EndsGrants s.now at bits result }
-{
-    if s[at] == b'\r' {
-        if s[at + 1] == b'\n' {
-            return Granted::Held { bits, next: at + 2 };
-        }
-    }
-    Granted::Wrong
-}
-
-// Grants that end a row, by their bytes, where each is below 64. Wrong says nothing of them.
-fn quick_grants(s: &[u8], at: usize) -> Granted
-    ensures { Quick Granted.Wrong (granted_of (grants_at s.now at)) result }
+// Grants that end a row, by their bytes, where each is below 64.
+fn quick_grants(s: &[u8], at: usize) -> Option<At<Listed>>
+    ensures { Quick (read_as listed (grants_at s.now at)) result }
 {
     let mut bits: u64 = 0;
     let mut low: usize = 0;
     let mut i = at;
     while has_room(s, i, GRANT_ROOM) {
-        let x = short_digits(s, i);
-        if x == 0 {
-            return Granted::Wrong;
+        let grant = short_number(s, i)?;
+        if grant.value < low || scan::SET_BITS <= grant.value {
+            return None;
         }
-        let v = x / 8;
-        if v < low {
-            return Granted::Wrong;
+        bits |= 1u64 << grant.value;
+        low = grant.value + 1;
+        if s[grant.next] != b' ' {
+            return ends_row(s, grant.next).then_some(At {
+                value: Listed::Held(bits),
+                next: grant.next + 2,
+            });
         }
-        if scan::SET_BITS <= v {
-            return Granted::Wrong;
-        }
-        bits = bits | (1u64 << v);
-        low = v + 1;
-        let e = i + x % 8;
-        if s[e] != b' ' {
-            return end_grants(s, e, bits);
-        }
-        i = e + 1;
+        i = grant.next + 1;
     }
-    Granted::Wrong
+    None
 }
 
-fn read_grants(s: &[u8], at: usize) -> Granted
-    ensures { result ≡ granted_of (grants_at s.now at) }
+fn read_grants(s: &[u8], at: usize) -> Option<At<Listed>>
+    ensures { result ≡ read_as listed (grants_at s.now at) }
 {
-    match quick_grants(s, at) {
-        Granted::Held { bits, next } => Granted::Held { bits, next },
-        Granted::Beyond { next } => Granted::Beyond { next },
-        Granted::Wrong => records::read_grants(s, at),
-    }
+    quick_grants(s, at).or_else(|| records::read_grants(s, at))
 }
 
 // The node row of number i at a position. A node whose grants 64 bits can't hold has no kind.
-pub fn read_node(s: &[u8], at: usize, i: usize) -> NodeRow
-    ensures { result ≡ node_row_of (node_at s.now at i) }
+#[tactic(auto, unfolding(records::specs::Records::node_at))]
+pub fn read_node(s: &[u8], at: usize, i: usize) -> Option<At<Node>>
+    ensures { result ≡ read_as kept (node_at s.now at i) }
 {
-    let LeadRow::At { lead, next: p } = read_lead(s, at, i) else {
-        return NodeRow::Wrong;
+    let At { value: lead, next } = read_lead(s, at, i)?;
+    let At {
+        value: grants,
+        next,
+    } = read_grants(s, next)?;
+    let value = match grants {
+        Listed::Held(grants) => Node {
+            kind: lead.kind as u8,
+            check: lead.check as u16,
+            privileged: (lead.marks % 2) as u8,
+            entry: (lead.marks / 2) as u8,
+            grants,
+        },
+        Listed::Beyond => Node {
+            kind: records::NO_KIND,
+            check: 0,
+            privileged: 0,
+            entry: 0,
+            grants: 0,
+        },
     };
-    match read_grants(s, p) {
-        Granted::Held { bits, next } => NodeRow::At {
-            node: Node {
-                kind: lead.kind as u8,
-                check: lead.check as u16,
-                privileged: (lead.marks % 2) as u8,
-                entry: (lead.marks / 2) as u8,
-                grants: bits,
-            },
-            next,
-        },
-        Granted::Beyond { next } => NodeRow::At {
-            node: Node {
-                kind: records::NO_KIND,
-                check: 0,
-                privileged: 0,
-                entry: 0,
-                grants: 0,
-            },
-            next,
-        },
-        Granted::Wrong => NodeRow::Wrong,
-    }
+    Some(At { value, next })
 }
 
-// An edge row whose fields are all short. Wrong says nothing of the row.
-fn quick_edge(s: &[u8], at: usize) -> EdgeRow
-    ensures { Quick EdgeRow.Wrong (edge_row_of (edge_at s.now at)) result }
+// An edge row whose fields are all short.
+#[tactic(auto, unfolding(records::specs::Records::edge_at, records::specs::Records::three_at))]
+fn quick_edge(s: &[u8], at: usize) -> Option<At<Edge>>
+    ensures { Quick (edge_at s.now at) result }
 {
     if !has_room(s, at, ROW_ROOM) {
-        return EdgeRow::Wrong;
+        return None;
     }
-    if short_letter(s, at) != b'E' {
-        return EdgeRow::Wrong;
+    let tag = short_field(s, at, Form::Tag(b'E'))?;
+    let from = short_field(s, tag.next, Form::Number)?;
+    let to = short_field(s, from.next, Form::Number)?;
+    let way = short_field(s, to.next, Form::Way)?;
+    let empty = short_field(s, way.next, Form::Empty)?;
+    if !ends_row(s, empty.next) {
+        return None;
     }
-    let from = short_number(s, at + 2);
-    if from == 0 {
-        return EdgeRow::Wrong;
-    }
-    let a = at + 2 + from % 8;
-    let to = short_number(s, a);
-    if to == 0 {
-        return EdgeRow::Wrong;
-    }
-    let b = a + to % 8;
-    let way = short_way(s, b);
-    if way == 0 {
-        return EdgeRow::Wrong;
-    }
-    let c = b + way % 8;
-    if !ends_empty(s, c) {
-        return EdgeRow::Wrong;
-    }
-    EdgeRow::At {
-        edge: Edge {
-            from: (from / 8) as u16,
-            to: (to / 8) as u16,
-            way: (way / 8) as u8,
+    Some(At {
+        value: Edge {
+            from: from.value as u16,
+            to: to.value as u16,
+            way: way.value as u8,
         },
-        next: c + 3,
-    }
+        next: empty.next + 2,
+    })
 }
 
-// Whether two empty fields end a row.
-fn ends_empty(s: &[u8], at: usize) -> bool
-    requires { at + 8 ≤ length s.now }
-    ensures { Shows (EndsEmpty s.now at) result }
+pub fn read_edge(s: &[u8], at: usize) -> Option<At<Edge>>
+    ensures { result ≡ edge_at s.now at }
 {
-    if s[at] == b',' {
-        if s[at + 1] == b'\r' {
-            return s[at + 2] == b'\n';
-        }
-    }
-    false
-}
-
-pub fn read_edge(s: &[u8], at: usize) -> EdgeRow
-    ensures { result ≡ edge_row_of (edge_at s.now at) }
-{
-    match quick_edge(s, at) {
-        EdgeRow::At { edge, next } => EdgeRow::At { edge, next },
-        EdgeRow::Wrong => records::read_edge(s, at),
-    }
+    quick_edge(s, at).or_else(|| records::read_edge(s, at))
 }

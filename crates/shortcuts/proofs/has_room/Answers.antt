@@ -1,12 +1,9 @@
-use Prim.Native.Nat.{◌-◌}
-use lib.ListN.{length}
-use native.Mathlib.Omega.{arith}
-use Rattle.truth.specs.Truth.{fails}
-use Rattle.truth.specs.Truth.Tests.{says_same, le?}
+use Rattle.std.proofs.Common.{arith}
+use Rattle.truth.specs.Truth.Tests.{says_same, says_no, le?}
 use Rattle.shortcuts.proofs.has_room.Goals as goal
 
-pub returns-then-s-count : goal.returns-then-s-count
-returns-then-s-count c = fails (λ h. omega arith)
+pub returns-then-count-s : goal.returns-then-count-s
+returns-then-count-s c = says_same (le? _ _) (λ h. omega (arith, h)) (λ h. omega (arith, h))
 
-pub returns : goal.returns
-returns c = says_same (le? c.args.at (length c.args.s.now - c.args.count)) (λ h. omega (arith, h)) (λ h. omega (arith, h))
+pub returns-else-count-s : goal.returns-else-count-s
+returns-else-count-s c = says_same (le? _ _) (λ h. omega (arith, h)) (λ h. omega (arith, h))

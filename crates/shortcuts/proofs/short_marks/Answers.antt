@@ -1,26 +1,22 @@
-use mathlib.Core.Path.{sym, ◌∙◌}
-use native.Mathlib.Omega.{arith}
-use Rattle.fields.specs.declared.Form.TheVariants.{Marks}
-use Rattle.shortcuts.specs.Shortcuts.Short.{other, letter_short, empty_short, both_marks, marks_says_0, marks_says_1, marks_says_2}
+use Rattle.std.proofs.Common.{refl, arith, lit<, [], ◌∷◌}
+use Rattle.scan.specs.Scan.Bare.{none, byte, calm_above}
+use Rattle.fields.specs.Fields.{says}
+use Rattle.shortcuts.specs.Shortcuts.Short.{letter_stands, nothing_stands}
 use Rattle.shortcuts.proofs.short_marks.Goals as goal
 
-pub returns-then-s-at-eq44 : goal.returns-then-s-at-eq44
-returns-then-s-at-eq44 c = empty_short Marks _ _ marks_says_0 c.if-s-at-eq44.true
+pub returns-in-80-eq69 : goal.returns-in-80-eq69
+returns-in-80-eq69 c = record {
+  bytes = 80 ∷ 69 ∷ [];
+  stand = byte refl c.in-80-eq69.is-0 (calm_above (lit< tt)) (byte (omega arith) c.in-80-eq69.is-1 (calm_above (lit< tt)) none);
+  said = unfold says in refl;
+  near = omega arith;
+}
 
-pub returns-then-b-eq80 : goal.returns-then-b-eq80
-returns-then-b-eq80 c = letter_short Marks _ _ 80 1 (omega arith) marks_says_1 (sym c.short_letter-b.ensures ∙ c.if-b-eq80.true)
+pub returns-in-80-default : goal.returns-in-80-default
+returns-in-80-default c = letter_stands {b = 80} (lit< tt) (unfold says in refl) c.in-80-default.is-0 refl
 
-pub returns-then-b-eq69 : goal.returns-then-b-eq69
-returns-then-b-eq69 c = letter_short Marks _ _ 69 2 (omega arith) marks_says_2 (sym c.short_letter-b.ensures ∙ c.if-b-eq69.true)
+pub returns-in-69-default : goal.returns-in-69-default
+returns-in-69-default c = letter_stands {b = 69} (lit< tt) (unfold says in refl) c.in-69-default.is-0 refl
 
-pub returns-then-s-at-eq44-2 : goal.returns-then-s-at-eq44-2
-returns-then-s-at-eq44-2 c = both_marks c.if-s-at-eq80.true c.if-s-at-eq69.true c.if-s-at-eq44-2.true
-
-pub returns-else-s-at-eq44-2 : goal.returns-else-s-at-eq44-2
-returns-else-s-at-eq44-2 c = other
-
-pub returns-else-s-at-eq69 : goal.returns-else-s-at-eq69
-returns-else-s-at-eq69 c = other
-
-pub returns-else-s-at-eq80 : goal.returns-else-s-at-eq80
-returns-else-s-at-eq80 c = other
+pub returns-in_default : goal.returns-in_default
+returns-in_default c = nothing_stands (unfold says in refl)

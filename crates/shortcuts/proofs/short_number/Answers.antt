@@ -1,15 +1,16 @@
-use native.Mathlib.Omega.{arith}
-use Rattle.shortcuts.specs.Shortcuts.Short.{digits_low, Short, number_short}
+use Rattle.std.proofs.Common.{refl, sym, get_or, arith}
+use Rattle.scan.specs.Scan.Numbers.{number_small}
+use Rattle.shortcuts.specs.Shortcuts.Short.{digit_low, numeral_first, numeral_more}
 use Rattle.shortcuts.proofs.short_number.Goals as goal
 
-pub returns-then-x-eq0 : goal.returns-then-x-eq0
-returns-then-x-eq0 c = Short.other
+pub loop-next-init : goal.loop-next-init
+loop-next-init c = numeral_first refl (sym c.in_ok-value.ensures)
 
-pub overflow_add-result : goal.overflow_add-result
-overflow_add-result c = omega (arith, digits_low c.short_digits-x.ensures)
+pub overflow_mul-value : goal.overflow_mul-value
+overflow_mul-value c = let n = c.loop-next.invariant in omega (arith, number_small 4 n.digits _ n.number)
 
-pub returns-then-s-at-eq44 : goal.returns-then-s-at-eq44
-returns-then-s-at-eq44 c = number_short c.short_digits-x.ensures c.if-x-eq0.false c.if-s-at-eq44.true
+pub overflow_add-value : goal.overflow_add-value
+overflow_add-value c = let n = c.loop-next.invariant in omega (arith, number_small 4 n.digits _ n.number, digit_low (get_or c.args.s.now c.loop-next.next 0) (sym c.in-Some.ensures))
 
-pub returns : goal.returns
-returns c = Short.other
+pub loop-next-preserved : goal.loop-next-preserved
+loop-next-preserved c = numeral_more c.loop-next.invariant (omega (arith, c.if-value-eq0.false)) (omega arith) refl (sym c.in-Some.ensures)

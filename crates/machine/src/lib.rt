@@ -33,7 +33,8 @@ fn by_rights(nodes: &LentNodes, p: usize, node: usize) -> Option<bool>
     let own = Set {
         bits: nodes.grants[node],
     };
-    if !own.has(p) {
+    let granted = own.has(p);
+    if !granted {
         return Some(false);
     }
     rules::is_privileged(nodes.privileged[node], p).then_some(true)
@@ -45,16 +46,17 @@ fn by_sets(sets: &LentSets, p: usize, node: usize) -> Option<bool>
     requires node { node < length sets.now.denied.now }
     ensures { AtFrame (quick sets.now.denied.now sets.now.granted.now p) node result }
 {
-    let fails = Set {
+    let denied = Set {
         bits: sets.denied[node],
     };
-    if fails.has(p) {
+    let fails = denied.has(p);
+    if fails {
         return Some(false);
     }
-    let passes = Set {
+    let granted = Set {
         bits: sets.granted[node],
     };
-    passes.has(p).then_some(true)
+    granted.has(p).then_some(true)
 }
 
 // Goes down from the top frame, until the node of one decides.

@@ -4,11 +4,13 @@ pub mod Numbers
 pub mod Lists
 pub mod Bare
 pub mod Digits
-use Rattle.std.specs.Prelude.{ℕ, suc, ◌+◌, ◌-◌, ◌*◌, ◌^◌, List, [], ◌∷◌, Bool, true, false, cond, not, length, get_or, take, drop, eqb, ltb, leb, Option, Some, None, option_map, option_and_then}
+use Rattle.std.specs.Prelude.{ℕ, ◌+◌, ◌-◌, ◌*◌, ◌^◌, List, [], ◌∷◌, Bool, true, false, cond, not, length, get_or, take, drop, eqb, ltb, Option, Some, None, option_map, option_and_then}
+use Rattle.std.specs.Char.{is_ascii_digit}
+use Rattle.std.specs.List.{prefix_len, slice_split}
 use Rattle.std.specs.Int.Bits.{bit_or}
 use Rattle.scan.specs.declared.At.{At}
 use Rattle.scan.specs.declared.Class.{Class}
-use Rattle.scan.specs.declared.Class.TheVariants.{Plain, Inside, Word}
+use Rattle.scan.specs.declared.Class.TheVariants.{Plain, Inside}
 use Rattle.scan.specs.declared.Listed.{Listed}
 use Rattle.scan.specs.declared.Listed.TheVariants.{Held, Beyond}
 
@@ -32,25 +34,20 @@ space = 32
 abbrev pub nought : ℕ
 nought = 48
 
-abbrev pub nine : ℕ
-nine = 57
-
 -- What was read, and the position past it.
 abbrev pub read_to : {X : Type 0} → X → (next : ℕ) → At X
 read_to x next = record { value = x; next = next }
 
 -- ---- Runs and parts
 
--- What a field without quotes may hold, what stands between quotes, and what stands between the spaces of a list.
+-- What a field without quotes may hold, and what stands between quotes.
 abbrev pub belongs : Class → ℕ → Bool
 belongs Plain b = cond (eqb b quote) false (cond (eqb b comma) false (cond (eqb b cr) false (not (eqb b lf))))
 belongs Inside b = not (eqb b quote)
-belongs Word b = not (eqb b space)
 
 -- How many bytes of a class a list begins with.
 unfoldable pub run : Class → List ℕ → ℕ
-run c [] = 0
-run c (b ∷ l) = cond (belongs c b) (suc (run c l)) 0
+run c l = prefix_len (belongs c) l
 
 -- The part of a text from start up to end.
 abbrev pub part_of : List ℕ → (start end : ℕ) → List ℕ
@@ -61,7 +58,7 @@ part_of s start end = take (end - start) (drop start s)
 -- The digits of a list, after digits that say v.
 unfoldable pub digits_from : ℕ → List ℕ → Option ℕ
 digits_from v [] = Some v
-digits_from v (b ∷ l) = cond (leb nought b) (cond (leb b nine) (digits_from (v * 10 + (b - nought)) l) None) None
+digits_from v (b ∷ l) = cond (is_ascii_digit b) (digits_from (v * 10 + (b - nought)) l) None
 
 -- A number has at most so many digits, whatever is allowed.
 abbrev pub most_digits : ℕ
@@ -78,13 +75,8 @@ number_of most l =
 -- ---- Lists
 
 -- The words of a list between its spaces.
-abbrev pub onto : ℕ → List (List ℕ) → List (List ℕ)
-onto b [] = (b ∷ []) ∷ []
-onto b (w ∷ ws) = (b ∷ w) ∷ ws
-
 unfoldable pub words : List ℕ → List (List ℕ)
-words [] = [] ∷ []
-words (b ∷ l) = cond (eqb b space) ([] ∷ words l) (onto b (words l))
+words l = slice_split (λ b. eqb b space) l
 
 -- The numbers that words name, strictly ascending and none below low, joined to the set x: a set is the number with those bits, of any size.
 unfoldable pub ascending : (most low x : ℕ) → List (List ℕ) → Option ℕ

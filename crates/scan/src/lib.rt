@@ -20,8 +20,6 @@ pub enum Class {
     Plain,
     // What stands between quotes: no quote.
     Inside,
-    // What stands between the spaces of a list: no space.
-    Word,
 }
 
 // Most bytes are above the comma, and settled by one test.
@@ -38,21 +36,23 @@ impl Class {
         match self {
             Class::Plain => is_plain(b),
             Class::Inside => b != b'"',
-            Class::Word => b != b' ',
         }
     }
+}
+
+// How many bytes of a class the text begins with.
+#[tactic(auto, unfolding(crate::specs::Scan::run))]
+fn run_len(s: &[u8], class: Class) -> usize
+    ensures { result ≡ run class s.now }
+{
+    s.iter().take_while(|b| class.has(**b)).count()
 }
 
 // Where the run of bytes of a class that starts at `at` ends.
 pub fn run_end(s: &[u8], at: usize, class: Class) -> usize
     ensures { result ≡ at + run class (drop at s.now) }
 {
-    for i in at..s.len() {
-        if !class.has(s[i]) {
-            return i;
-        }
-    }
-    at.max(s.len())
+    at + run_len(field(s, at, s.len()), class)
 }
 
 // The byte at a position, or 0 past the end.
@@ -90,19 +90,19 @@ fn read_digits(s: &[u8]) -> Option<usize>
 }
 
 // A decimal number of at most so many digits, with no needless zeros.
+#[tactic(auto, unfolding(crate::specs::Scan::number_of))]
 pub fn number(s: &[u8], most: usize) -> Option<usize>
     ensures { result ≡ number_of most s.now }
 {
+    let n = s.len();
     let most = most.min(MOST_DIGITS);
-    if most < s.len() {
+    if n == 0 || most < n {
         return None;
     }
-    match s {
-        [] => None,
-        b"0" => Some(0),
-        [b'0', ..] => None,
-        _ => read_digits(s),
+    if s[0] == b'0' {
+        return (n == 1).then_some(0);
     }
+    read_digits(s)
 }
 
 // A set is held in so many bits.
@@ -134,19 +134,14 @@ pub fn list(s: &[u8], most: usize) -> Option<Listed>
     if s.is_empty() {
         return Some(set);
     }
-    let mut at = 0;
     let mut low = 0;
-    loop {
-        let end = run_end(s, at, Class::Word);
-        let v = number(field(s, at, end), most)?;
+    for word in s.split(|b| *b == b' ') {
+        let v = number(word, most)?;
         if v < low {
             return None;
         }
         set = set.with(v);
         low = v + 1;
-        if s.len() <= end {
-            return Some(set);
-        }
-        at = end + 1;
     }
+    Some(set)
 }

@@ -1,10 +1,5 @@
-use Prim.Native.Nat.{◌+◌, ◌-◌}
-use lib.ListN.{length}
 use Rattle.scan.specs.Scan.Lists.{Going}
 use Rattle.scan.proofs.list.Given as goal
 
-abbrev pub invariant-loop-v : goal.invariant-loop-v
-invariant-loop-v l = Going l.most l.s l.set l.at l.low
-
-abbrev pub decreases-loop-v : goal.decreases-loop-v
-decreases-loop-v l = length l.s + 1 - l.at
+abbrev pub invariant-loop-word : goal.invariant-loop-word
+invariant-loop-word l = Going goal.iterator-loop-word.next_gives l.most l.s l.word-iterator l.set l.low

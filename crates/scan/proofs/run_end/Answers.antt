@@ -1,19 +1,20 @@
-use mathlib.Core.Path.{sym, ◌∙◌}
+use mathlib.Core.Path.{ap, ◌∙◌}
 use native.Mathlib.Omega.{arith}
-use Rattle.scan.specs.Scan.Runs.{run_step, run_stop, run_out}
+use lib.ListN.{length, drop, length-take}
+use Prim.Native.Nat.{ℕ, ◌+◌, ◌-◌}
+use Rattle.scan.specs.Scan.{run}
+use Rattle.scan.specs.Scan.Runs.{run_counted, run_most}
 use Rattle.scan.proofs.run_end.Goals as goal
 
-pub returns-then-not-is_of : goal.returns-then-not-is_of
-returns-then-not-is_of c =
+pub overflow_add-result : goal.overflow_add-result
+overflow_add-result c =
     let a = c.args in
-    omega (arith, run_stop a.class a.s.now c.loop-i.i c.loop-i-test.true (sym c.is_of.ensures ∙ c.if-not-is_of.true))
-
-pub loop-i-preserved : goal.loop-i-preserved
-loop-i-preserved c =
-    let a = c.args in
-    omega (arith, run_step a.class a.s.now c.loop-i.i c.loop-i-test.true (sym c.is_of.ensures ∙ c.if-not-is_of.false))
+    let most = run_most a.class c.field.result.now in
+    let long = ap (length {A = ℕ}) c.field.ensures in
+    let cut = length-take {A = ℕ} (length a.s.now - a.at) (drop a.at a.s.now) in
+    omega (arith, most, long, cut, c.run_len.ensures)
 
 pub returns : goal.returns
 returns c =
     let a = c.args in
-    omega (arith, run_out a.class a.s.now c.loop-i.i c.loop-i-test.false)
+    ap (λ (n : ℕ). a.at + n) (c.run_len.ensures ∙ ap (run a.class) c.field.ensures ∙ run_counted a.class a.s.now a.at)

@@ -5,6 +5,7 @@ use Rattle.std.proofs.Common.{sym, ◌∙◌, arith}
 use mathlib.Core.List.{List, [], ◌∷◌, ◌++◌, append_assoc}
 use Rattle.std.proofs.Math.ListN.{length-append}
 use Rattle.std.specs.Int.Bits.{bit_or}
+use Rattle.std.specs.Cmp.Derive.{both_true}
 use borrow.Author.Tests.{le-leb, le-ltb, eqb-true, eqb-false, ne_eqb}
 use Rattle.truth.specs.Truth.Bools.{by_split}
 use Rattle.scan.specs.Scan.{digits_from, number_of, words, ascending, members_of}
@@ -28,7 +29,7 @@ unfolding digits_from
 digits_on v d l h =
     let lo : 48 ≤ d + 48 = omega arith in
     let hi : d + 48 ≤ 57 = omega arith in
-    simp (le-leb _ _ lo, le-leb _ _ hi) (ap (λ (x : ℕ). digits_from (v * 10 + x) l) (omega arith))
+    simp (both_true (le-leb _ _ lo) (le-leb _ _ hi)) (ap (λ (x : ℕ). digits_from (v * 10 + x) l) (omega arith))
 
 digits_done : (u v : ℕ) → u ≡ v → digits_from u [] ≡ Some v
 unfolding digits_from

@@ -24,17 +24,17 @@ trait Rows {
     ghost most: { ℕ };
 
     // What row i says, read from a position on, and where the text goes on after it.
-    ghost row: { List ℕ → (from i : ℕ) → Option (At Self.Row) };
+    ghost row_at: { List ℕ → (from i : ℕ) → Option (At Self.Row) };
 
     // What the places hold after it is put there.
-    ghost put: { Self → (i : ℕ) → Self.Row → Self };
+    ghost with_row: { Self → (i : ℕ) → Self.Row → Self };
 
     fn read_row(s: &[u8], from: usize, i: usize) -> Option<At<Self::Row>>
-        ensures { result ≡ row s.now from i };
+        ensures { result ≡ row_at s.now from i };
 
     fn put_row(&mut self, i: usize, row: Self::Row)
         requires { i < most }
-        ensures { self.new ≡ put self.old i row };
+        ensures { self.new ≡ with_row self.old i row };
 }
 
 impl Rows for NodeSlots {
@@ -42,9 +42,9 @@ impl Rows for NodeSlots {
 
     ghost most = { 1024 };
 
-    ghost row = { kept_row };
+    ghost row_at = { kept_row };
 
-    ghost put = { node_put };
+    ghost with_row = { node_put };
 
     fn read_row(s: &[u8], from: usize, i: usize) -> Option<At<Node>> {
         shortcuts::read_node(s, from, i)
@@ -64,9 +64,9 @@ impl Rows for EdgeSlots {
 
     ghost most = { 4096 };
 
-    ghost row = { edge_row };
+    ghost row_at = { edge_row };
 
-    ghost put = { edge_put };
+    ghost with_row = { edge_put };
 
     fn read_row(s: &[u8], from: usize, _i: usize) -> Option<At<Edge>> {
         shortcuts::read_edge(s, from)
@@ -90,15 +90,15 @@ fn read_rows<R: Rows>(
     requires numbered { first ≤ 4294968320 }
     requires few { count ≤ 4096 }
     requires room { count ≤ R.most }
-    ensures { RowsRead (R.row s.now) R.put from first count rows.old result rows.new }
+    ensures { RowsRead (R.row_at s.now) R.with_row from first count rows.old result rows.new }
 {
     let mut at = from;
     for i in 0..count {
-        let Some(At { value, next }) = R::read_row(s, at, i) else {
+        let Some(row) = R::read_row(s, at, i) else {
             return Err(Refusal::Row(first + i));
         };
-        rows.put_row(i, value);
-        at = next;
+        rows.put_row(i, row.value);
+        at = row.next;
     }
     Ok(at)
 }
@@ -111,10 +111,12 @@ fn parse(into: &mut Slots, s: &[u8], from: usize, row: usize) -> Result<Size, Re
     let Some(At { value: counts, next }) = records::read_header(s, from) else {
         return Err(Refusal::Row(row));
     };
-    let first = row + 1;
-    let past = read_rows(&mut into.nodes, s, next, first, counts.n)?;
-    let ran = read_rows(&mut into.edges, s, past, first + counts.n, counts.m);
-    extent::end_text(ran, s.len(), first + counts.n + counts.m, counts)
+    let node = row + 1;
+    let past = read_rows(&mut into.nodes, s, next, node, counts.n)?;
+    let edge = node + counts.n;
+    let ran = read_rows(&mut into.edges, s, past, edge, counts.m);
+    let extra = edge + counts.m;
+    extent::end_text(ran, s.len(), extra, counts)
 }
 
 // Reads a text into slices that have room.

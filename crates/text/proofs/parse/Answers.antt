@@ -1,43 +1,46 @@
 -- A first row that is wrong ends it. Else its counts are in range, so that the arrays have places for as many nodes and edges. The node rows are read
--- first, and where one is wrong its number is the answer; else the edge rows follow where they end.
-use mathlib.Core.Path.{◌≡◌, sym, ◌∙◌}
-use native.Mathlib.Omega.{arith}
+-- first, and where one is wrong its refusal is the answer; else the edge rows follow where they end.
+use Rattle.std.proofs.Common.{◌≡◌, Some, sym, ◌∙◌, arith}
+use Rattle.std.proofs.lemmas.Result.{err_from_is_err_and}
 use Rattle.graph.specs.Graph.{Ranges}
-use Rattle.records.specs.Records.{header_at, got}
-use Rattle.records.specs.Records.Rows.{header_told, header_ranges}
+use Rattle.records.specs.Records.{header_at}
+use Rattle.records.specs.Records.Rows.{header_ranges}
 use Rattle.text.specs.Text.Ends.{parse_none, parse_stop, parse_past}
-use Rattle.text.proofs.parse.Goals.{In-At}
+use Rattle.text.proofs.parse.Goals.{In-Some}
 use Rattle.text.proofs.parse.Goals as goal
 
 -- what is known once the first row was read, and is right
-module _ (c : In-At) where
-  header : header_at c.args.s.now c.args.from ≡ got c.in-At.counts c.in-At.next
-  header = header_told _ (sym c.read_header.ensures ∙ c.in-At.is)
+module _ (c : In-Some) where
+  header : header_at c.args.s.now c.args.from ≡ Some c.in-Some.field-0
+  header = sym c.read_header.ensures ∙ c.in-Some.is
 
-  ranges : Ranges c.in-At.counts
+  ranges : Ranges c.in-Some.field-0.value
   ranges = header_ranges _ _ header
 
 pub returns-in_default : goal.returns-in_default
-returns-in_default c = parse_none _ _ _ (header_told _ (sym c.read_header.ensures ∙ c.in_default.is))
+returns-in_default c = parse_none _ _ _ (sym c.read_header.ensures ∙ c.in_default.is)
 
-pub overflow_add-first : goal.overflow_add-first
-overflow_add-first c = omega (arith, c.requires)
+pub read_rows-requires : goal.read_rows-requires
+read_rows-requires c =
+    let r = ranges (goal.at.read_rows-requires c).In-Some in
+    record { numbered = omega (arith, c.requires); few = omega (arith, r.n_high); room = r.n_high }
 
-pub read_nodes-ran-requires : goal.read_nodes-ran-requires
-read_nodes-ran-requires c = (omega (arith, c.requires), (ranges (goal.at.read_nodes-ran-requires c).In-At).n_high)
+pub overflow_add-edge : goal.overflow_add-edge
+overflow_add-edge c = let r = ranges (goal.at.overflow_add-edge c).In-Some in omega (arith, c.requires, r.n_high)
 
-pub overflow_add-first-in-Past : goal.overflow_add-first-in-Past
-overflow_add-first-in-Past c =
-    omega (arith, c.requires, (ranges (goal.at.overflow_add-first-in-Past c).In-At).n_high)
+pub read_rows-ran-requires : goal.read_rows-ran-requires
+read_rows-ran-requires c =
+    let r = ranges (goal.at.read_rows-ran-requires c).In-Some in
+    record { numbered = omega (arith, c.requires, r.n_high); few = r.m_high; room = r.m_high }
 
-pub parse_edges-requires : goal.parse_edges-requires
-parse_edges-requires c =
-    (omega (arith, c.requires, (ranges (goal.at.parse_edges-requires c).In-At).n_high), (ranges (goal.at.parse_edges-requires c).In-At).m_high)
+pub overflow_add-extra : goal.overflow_add-extra
+overflow_add-extra c = let r = ranges (goal.at.overflow_add-extra c).In-Some in omega (arith, c.requires, r.n_high, r.m_high)
 
-pub returns-in-Stop : goal.returns-in-Stop
-returns-in-Stop c =
-    parse_stop _ _ _ (header (goal.at.returns-in-Stop c).In-At) c.read_nodes-ran.ensures.answer c.in-Stop.is
+pub returns-in_err-past : goal.returns-in_err-past
+returns-in_err-past c =
+    let p = err_from_is_err_and c.from_residual.result c.from_residual.ensures.1 in
+    rw (p.1, p.2) (parse_stop _ _ _ (header (goal.at.returns-in_err-past c).In-Some) c.in_err-past.ensures.answer)
 
-pub returns-in-Past : goal.returns-in-Past
-returns-in-Past c =
-    parse_past _ _ _ (header (goal.at.returns-in-Past c).In-At) c.read_nodes-ran.ensures c.in-Past.is c.parse_edges.ensures
+pub returns : goal.returns
+returns c =
+    rw c.end_text.ensures (parse_past _ _ _ (header (goal.at.returns c).In-Some) c.in_ok-past.ensures c.read_rows-ran.ensures)

@@ -1,12 +1,12 @@
 -- How the answer follows from what was parsed and judged; and one answer and one content for every input.
-use Rattle.std.specs.Prelude.{ℕ, ◌≤◌, ◌<◌, ◌≡◌, List, ltb, length, take}
+use Rattle.std.specs.Prelude.{ℕ, ◌≤◌, ◌<◌, ◌≡◌, List, ltb, length, take, Ok, Err}
 use Rattle.std.proofs.Math.Path.{refl}
 use Rattle.std.proofs.Common.{sym, ap, ◌∙◌, subst, arith}
 use Rattle.std.proofs.lemmas.List.{length-map}
 use borrow.Author.Tests.{lt-ltb, le-ltb}
 use Rattle.truth.specs.Truth.Bools.{by_split}
 use Rattle.truth.specs.Truth.Tests.{true_says, false_says}
-use Rattle.graph.specs.Graph.{Graph, size_of, map_node, map_edge, NodesLong, EdgesLong, Ranges, Acceptable}
+use Rattle.graph.specs.Graph.{Graph, PerNode, PerEdge, size_of, map_node, map_edge, NodesLong, EdgesLong, Ranges, Acceptable}
 use Rattle.graph.specs.Refusals.{numbered, ◌at◌}
 use Rattle.graph.specs.Refusals.Laws.{numbered_one}
 use Rattle.graph.specs.Judge.{Judges, judge}
@@ -15,21 +15,23 @@ use Rattle.graph.specs.declared.Size.{Size}
 use Rattle.graph.specs.declared.Refusal.{Refusal}
 use Rattle.graph.specs.declared.Refusal.TheVariants as why
 use Rattle.graph.specs.Refusals.{Judged}
-use Rattle.std.specs.Prelude.{Ok, Err}
-use Rattle.handover.specs.Handover.{Lent, Room, held_graph, NodesWritten, EdgesWritten, Copied, HandsOver, cramped, refused, accepted}
+use Rattle.handover.specs.Handover.{Lent, lists_lent, Room, held_graph, NodesWritten, EdgesWritten, Copied, HandsOver, cramped, refused, accepted}
 use Rattle.handover.specs.Handover.Laws.{room?, held_judges, wrote, nodes_back, edges_back, written_one, edges_written_one}
 use Rattle.graph.specs.declared.Node.{Node}
 use Rattle.graph.specs.declared.Edge.{Edge}
 use Rattle.records.specs.Records.{kept}
 use Rattle.extent.specs.Extent.{SizesSo}
 use Rattle.extent.specs.Extent as extent
-use Rattle.extent.specs.declared.Parsed.{Parsed}
-use Rattle.extent.specs.declared.Parsed.TheVariants.{Counted, Wrong}
+use Rattle.extent.specs.Extent.{Parsed}
+use Rattle.extent.specs.Room.{slots_graph, Clear}
+use Rattle.extent.specs.declared.Slots.{Slots}
+use Rattle.graph.specs.Lent.{lent}
+use Rattle.graph.specs.declared.LentGraph.{LentGraph}
 use Rattle.text.specs.Text.{Reading}
 use Rattle.text.specs.Text.{Meaning, says, wrong, text_at, node_columns, edge_columns, graph_from, Outcome, read, on_judged, on_meaning, outcome_from, reading_from, Stores, Tells, stored, refuses}
 use Rattle.text.specs.Text as text
 use Rattle.text.specs.Text.Kept.{columns_long, edge_columns_long, kept_all, kept_judges, kept_same}
-use Rattle.text.specs.Text.Parts.{Parses, counted, faulty, told}
+use Rattle.text.specs.Text.Parts.{slots, Parses, counted, faulty}
 
 -- ---- what was parsed
 
@@ -42,11 +44,8 @@ pub record Said (c : Size) (before : Lent) (s : List ℕ) (from row : ℕ) (afte
   pub m_is : c.m ≡ length es
   pub so : Stores before (kept_all ns) es after
 
-pub counted_is : {c : Size} {before : Lent} {s : List ℕ} {from row : ℕ} {after : Lent} → Parses before s from row (Counted c) after → Said c before s from row after
+pub counted_is : {c : Size} {before : Lent} {s : List ℕ} {from row : ℕ} {after : Lent} → Parses before s from row (Ok c) after → Said c before s from row after
 counted_is (counted {ns = ns} {es = es} r e n m h) = record { ns = ns; es = es; ranges = r; means = e; n_is = n; m_is = m; so = h }
-
-pub faulty_is : {x : ℕ} {before : Lent} {s : List ℕ} {from row : ℕ} {after : Lent} → Parses before s from row (Wrong x) after → text_at s from row ≡ wrong x
-faulty_is (faulty e) = e
 
 pub stores_room : {before after : Lent} {ns : List Node} {es : List Edge} → Stores before ns es after → Room before → Room after
 stores_room {before} {after} {ns} {es} h r =
@@ -90,26 +89,33 @@ module _ {c : Size} {zeros held : Lent} {s : List ℕ} {from row : ℕ} (d : Sai
         (record { nodes = subst (λ v. NodesWritten before.nodes v after.nodes) nodes_are p.nodes; edges = subst (λ v. EdgesWritten before.edges v after.edges) edges_are p.edges })
 
   -- the slices had room, so it is the graph that is judged
-  pub handed_tells : {before after : Lent} {j : Judged} → Room held → Room before → HandsOver c held before j after → Tells (on_meaning (text_at s from row)) before (told j c) after
-  handed_tells p q (cramped e) = absurd (e q)
-  handed_tells {before} {after} p q (accepted _ h w) =
+  taken_tells : {before after : Lent} → Room held → Room before → HandsOver c held before (Ok tt) after → Tells (on_meaning (text_at s from row)) before (Ok c) after
+  taken_tells {before} {after} p q (accepted _ h w) =
       subst (λ (x : Size). Tells (on_meaning (text_at s from row)) before (Ok x) after) (λ i. size_of c.k (sym d.n_is i) (sym d.m_is i))
       (stored (means_so (held_judges p h)) (copied_so (held_judges p h) w))
-  handed_tells p q (refused _ h) = refuses (means_so (held_judges p h))
 
--- what was parsed into has room as before
-pub counted_room : {zeros : Lent} (s : List ℕ) (from row : ℕ) {p : Parsed} {held : Lent} {c : Size} → Parses zeros s from row p held → p ≡ Counted c → Room zeros → Room held
-counted_room {zeros} s from row {held = held} h e z = stores_room (counted_is (subst (λ (q : Parsed). Parses zeros s from row q held) e h)).so z
+  refused_tells : {before after : Lent} {r : Refusal} → Room held → Room before → HandsOver c held before (Err r) after → Tells (on_meaning (text_at s from row)) before (Err r) after
+  refused_tells p q (cramped e) = absurd (e q)
+  refused_tells p q (refused _ h) = refuses (means_so (held_judges p h))
+
+-- arrays made by repetition have room, and are lent as they are
+pub clear_room : {x : Slots} → Clear x → Room (slots x)
+clear_room c = record { nodes = c.room.0; edges = c.room.1 }
+
+pub slots_handed : (g : LentGraph) {c : Size} (x : Slots) {before after : Lent} {j : Judged} → lent g ≡ slots_graph c x → HandsOver g.size (lists_lent g) before j after → HandsOver c (slots x) before j after
+slots_handed g x {before = before} {after = after} {j = j} e h = subst (λ (y : Graph). HandsOver y.size (record { nodes = y.nodes; edges = y.edges }) before j after) e h
 
 -- the answer, by what was parsed
-module _ {before zeros : Lent} (s : List ℕ) (from row : ℕ) {p : Parsed} {held : Lent} (h : Parses zeros s from row p held) where
-  pub wrong_tells : {x : ℕ} → p ≡ Wrong x → Tells (on_meaning (text_at s from row)) before (Err (why.Row x)) before
-  wrong_tells e = refuses (ap on_meaning (faulty_is (subst (λ (q : Parsed). Parses zeros s from row q held) e h)))
+module _ {before zeros : Lent} (s : List ℕ) (from row : ℕ) {held : Lent} where
+  pub wrong_tells : {r : Refusal} → Parses zeros s from row (Err r) held → Tells (on_meaning (text_at s from row)) before (Err r) before
+  wrong_tells (faulty e) = refuses (ap on_meaning e)
 
-  pub counted_tells : {c : Size} {after : Lent} {j : Judged} {r : Reading} → p ≡ Counted c → Room zeros → Room before → HandsOver c held before j after → r ≡ told j c → Tells (on_meaning (text_at s from row)) before r after
-  counted_tells {after = after} e z k o f =
-      let d = counted_is (subst (λ (q : Parsed). Parses zeros s from row q held) e h) in
-      subst (λ (q : Reading). Tells (on_meaning (text_at s from row)) before q after) (sym f) (handed_tells d z (stores_room d.so z) k o)
+  module _ {c : Size} {after : Lent} (h : Parses zeros s from row (Ok c) held) (z : Room zeros) (k : Room before) where
+    pub taken : HandsOver c held before (Ok tt) after → Tells (on_meaning (text_at s from row)) before (Ok c) after
+    taken o = let d = counted_is h in taken_tells d z (stores_room d.so z) k o
+
+    pub refused_after : {r : Refusal} → HandsOver c held before (Err r) after → Tells (on_meaning (text_at s from row)) before (Err r) after
+    refused_after o = let d = counted_is h in refused_tells d z (stores_room d.so z) k o
 
 -- ---- the slices' lengths and the text's
 
@@ -132,19 +138,16 @@ module _ (x : Lent) (s : List ℕ) (from row : ℕ) where
     reading_sized h = rw (true_says (room? x) r, le-ltb 65536 (length s) h) refl
 
   -- refused for the lengths, or read
-  module _ {z : Judged} (h : SizesSo (map_node length x.nodes) (map_edge length x.edges) (length s) z) where
-    pub sizes_refused : {r : Refusal} → z ≡ Err r → reading_from x s from row ≡ text.refused (numbered r)
-    sizes_refused e = by_sizes (subst (SizesSo _ _ _) e h)
-      where
-        by_sizes : {r : Refusal} → SizesSo (map_node length x.nodes) (map_edge length x.edges) (length s) (Err r) → reading_from x s from row ≡ text.refused (numbered r)
-        by_sizes (extent.cramped d) = reading_short (λ r. d (r.nodes, r.edges))
-        by_sizes (extent.long l k) = reading_long (record { nodes = l.0; edges = l.1 }) k
+  pub sizes_refused : {r : Refusal} → SizesSo (map_node length x.nodes) (map_edge length x.edges) (length s) (Err r) → reading_from x s from row ≡ text.refused (numbered r)
+  sizes_refused (extent.cramped d) = reading_short (λ r. d (r.nodes, r.edges))
+  sizes_refused (extent.long l k) = reading_long (record { nodes = l.0; edges = l.1 }) k
 
-    pub sizes_fit : z ≡ (Ok tt) → Room x × (reading_from x s from row ≡ on_meaning (text_at s from row))
-    sizes_fit e = by_sizes (subst (SizesSo _ _ _) e h)
-      where
-        by_sizes : SizesSo (map_node length x.nodes) (map_edge length x.edges) (length s) (Ok tt) → Room x × (reading_from x s from row ≡ on_meaning (text_at s from row))
-        by_sizes (extent.fit l k) = let r : Room x = record { nodes = l.0; edges = l.1 } in (r, reading_sized r k)
+  pub sizes_fit : SizesSo (map_node length x.nodes) (map_edge length x.edges) (length s) (Ok tt) → Room x × (reading_from x s from row ≡ on_meaning (text_at s from row))
+  sizes_fit (extent.fit l k) = let r : Room x = record { nodes = l.0; edges = l.1 } in (r, reading_sized r k)
+
+-- the lengths as they were told
+pub sizes_told : (x : Lent) {a : PerNode ℕ} {b : PerEdge ℕ} {text : ℕ} {z : Judged} → a ≡ map_node length x.nodes → b ≡ map_edge length x.edges → SizesSo a b text z → SizesSo (map_node length x.nodes) (map_edge length x.edges) text z
+sizes_told x {a} {b} {text} {z} e f h = subst (λ y. SizesSo (map_node length x.nodes) y text z) f (subst (λ y. SizesSo y b text z) e h)
 
 pub tells_by : {o p : Outcome} {before after : Lent} {r : Reading} → o ≡ p → Tells p before r after → Tells o before r after
 tells_by {before = before} {after = after} {r = r} e t = subst (λ (q : Outcome). Tells q before r after) (sym e) t
@@ -186,7 +189,7 @@ stores_one a b = λ i. record { nodes = written_one a.nodes b.nodes i; edges = e
 pub reads_one : {o : Outcome} {before x y : Lent} {a b : Reading} → Tells o before a x → Tells o before b y → (a ≡ b) × (x ≡ y)
 reads_one {before = before} {x = x} {y = y} (stored {k = k} {ns = ns} {es = es} e h) (stored {k = l} {ns = ms} {es = fs} f i) = go (sym e ∙ f)
   where
-    go : read k ns es ≡ read l ms fs → (Ok (size_of k (length ns) (length es)) ≡ Ok (size_of l (length ms) (length fs))) × (x ≡ y)
+    go : read k ns es ≡ read l ms fs → ◌≡◌ {A = Reading} (Ok (size_of k (length ns) (length es))) (Ok (size_of l (length ms) (length fs))) × (x ≡ y)
     go q =
         let u : k ≡ l = cc in
         let v : ns ≡ ms = cc in

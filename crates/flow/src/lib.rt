@@ -41,10 +41,9 @@ fn start(system: System, k: usize) -> u64
 pub fn called(privileged: u8, grants: u64, arrived: u64) -> u64
     ensures { result ≡ call_num privileged grants arrived }
 {
-    if privileged == graph::MARKED {
-        grants
-    } else {
-        arrived
+    match privileged {
+        graph::MARKED => grants,
+        _ => arrived,
     }
 }
 
@@ -117,10 +116,10 @@ pub fn carry(way: u8, leaving: Leaving, into: u64) -> u64
     ensures { result ≡ edge_num way leaving.call leaving.trans into }
 {
     let call = Set { bits: leaving.call };
-    if way == graph::CALL {
-        call.common(Set { bits: into }).bits
-    } else {
-        leaving.trans
+    let cut = call.common(Set { bits: into }).bits;
+    match way {
+        graph::CALL => cut,
+        _ => leaving.trans,
     }
 }
 
@@ -166,10 +165,9 @@ pub struct Entry {
 pub fn first_sum(system: System, k: usize, entry: Entry) -> u64
     ensures { result ≡ start_ins (system_of system) k entry.mark entry.grants }
 {
-    if entry.mark == graph::MARKED {
-        entry.grants
-    } else {
-        start(system, k)
+    match entry.mark {
+        graph::MARKED => entry.grants,
+        _ => start(system, k),
     }
 }
 

@@ -124,7 +124,8 @@ fn count_down(stack: &mut [u16], n: usize)
 pub fn fill(stack: &mut [u16], n: usize)
     ensures { Fills n stack.old stack.new }
 {
-    if n <= stack.len() && n <= LARGEST {
+    let room = stack.len().min(LARGEST);
+    if n <= room {
         count_down(stack, n);
     }
 }

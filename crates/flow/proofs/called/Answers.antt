@@ -1,11 +1,13 @@
+use Rattle.std.proofs.Common.{◌≡◌, eq-eqb, ne_eqb, arith}
 use Rattle.flow.specs.Walk.{call_num}
-use borrow.Author.Tests.{eq-eqb, ne_eqb}
 use Rattle.flow.proofs.called.Goals as goal
 
-pub returns-then-privileged-eq-MARKED : goal.returns-then-privileged-eq-MARKED
+pub returns-in-1 : goal.returns-in-1
 unfolding call_num
-returns-then-privileged-eq-MARKED c = rw (eq-eqb _ 1 c.if-privileged-eq-MARKED.true)
+returns-in-1 c = rw (eq-eqb _ 1 c.in-1.is)
 
-pub returns-else-privileged-eq-MARKED : goal.returns-else-privileged-eq-MARKED
+pub returns-in_default : goal.returns-in_default
 unfolding call_num
-returns-else-privileged-eq-MARKED c = rw (ne_eqb _ 1 c.if-privileged-eq-MARKED.false)
+returns-in_default c =
+    let unmarked : c.args.privileged ≡ 1 → ⊥ = λ e. omega arith in
+    rw (ne_eqb _ 1 unmarked)

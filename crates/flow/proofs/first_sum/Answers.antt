@@ -1,11 +1,13 @@
+use Rattle.std.proofs.Common.{◌≡◌, eq-eqb, ne_eqb, arith}
 use Rattle.flow.specs.Walk.{start_ins}
-use borrow.Author.Tests.{eq-eqb, ne_eqb}
 use Rattle.flow.proofs.first_sum.Goals as goal
 
-pub returns-then-entry-eq-MARKED : goal.returns-then-entry-eq-MARKED
+pub returns-in-1 : goal.returns-in-1
 unfolding start_ins
-returns-then-entry-eq-MARKED c = rw (eq-eqb _ 1 c.if-entry-eq-MARKED.true)
+returns-in-1 c = rw (eq-eqb _ 1 c.in-1.is)
 
-pub returns-else-entry-eq-MARKED : goal.returns-else-entry-eq-MARKED
+pub returns-in_default : goal.returns-in_default
 unfolding start_ins
-returns-else-entry-eq-MARKED c = rw (ne_eqb _ 1 c.if-entry-eq-MARKED.false) c.start.ensures
+returns-in_default c =
+    let unmarked : c.args.entry.mark ≡ 1 → ⊥ = λ e. omega arith in
+    rw (ne_eqb _ 1 unmarked) c.start.ensures

@@ -177,7 +177,7 @@ fn store_nodes(into: &mut SetPlaces, graph: &LentGraph, may: &Sums, sure: &Sums)
     requires long { Long (lent graph.now) (stored into.old) }
     requires may { HasSums graph.now.size.n may.now }
     requires sure { HasSums graph.now.size.n sure.now }
-    ensures { NodesStored (lent graph.now) may.now sure.now into.old into.new }
+    ensures { NodesStored (lent graph.now) may.now sure.now into.old into.new graph.now.size.n }
 {
     for i in 0..graph.size.n {
         let mark = graph.nodes.privileged[i];

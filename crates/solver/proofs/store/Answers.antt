@@ -1,0 +1,64 @@
+-- The edges of an accepted graph are linked (`lists_linked`), and MAY is solved. SURE is solved by MAY's out sets and by what MAY says of every
+-- check (`may_any`); both, with the sets of the nodes, are the content asked for (`walked_content`).
+use Rattle.std.specs.Prelude.{◌≡◌, ℕ, zero, suc, ◌≤◌, Bool, List, length, get_or, refl}
+use Rattle.std.proofs.Common.{◌∙◌, arith, length-set}
+use Rattle.std.proofs.Math.ListN.{get_or-replicate}
+use Rattle.graph.specs.Graph.{Graph, may, Acceptable}
+use Rattle.graph.specs.Lent.{lent}
+use Rattle.worklist.specs.Worklist.{Lists, lists, link_to, Links, linked, kept}
+use Rattle.flow.specs.Walk.Settled.{Settled}
+use Rattle.flow.proofs.Walk.Stored.{walked_content}
+use Rattle.flow.proofs.Walk.Settled.{may_any}
+use Rattle.flow.proofs.Walk.Taken.{lists_linked}
+use Rattle.solver.proofs.store.Goals.{After-spread}
+use Rattle.solver.proofs.store.Goals as goal
+
+-- ---- lists keep their lengths where edges are linked
+
+link_to_long : (froms : List ℕ) (i : ℕ) (x : Lists) → (length (link_to froms i x).head ≡ length x.head) × (length (link_to froms i x).prev ≡ length x.prev)
+unfolding link_to
+link_to_long froms zero x = (refl, refl)
+link_to_long froms (suc i) x = let w = link_to_long froms i x in (length-set _ _ _ ∙ w.0, length-set _ _ _ ∙ w.1)
+
+links_long : {froms head prev : List ℕ} {r : Bool} {x : Lists} → Links froms head prev r x → (length x.head ≡ length head) × (length x.prev ≡ length prev)
+links_long (linked _) = link_to_long _ _ _
+links_long (kept _) = (refl, refl)
+
+-- ---- what MAY leaves
+
+module _ (c : After-spread) where
+  may_settled : Settled (lent c.args.graph.now) may c.args.into.now.sure.now c.args.graph.now.nodes.grants.now c.settle.new.sums.ins.now c.settle.new.sums.past.now c.spread.new.out
+  may_settled =
+      let s = c.settle.ensures.settled in
+      record { setting = record { acc = c.requires.acceptable; any = tt }; good = s.good; quiet = s.quiet; stored = c.spread.ensures }
+
+pub settle-requires-clause-walkable : goal.settle-requires-clause-walkable
+settle-requires-clause-walkable c =
+    let acc = c.requires.acceptable in
+    let high = acc.shape.ranges in
+    let k = links_long c.link.ensures in
+    record {
+      setting = record { acc = acc; any = tt };
+      linked = lists_linked _ _ _ acc (λ i l. get_or-replicate 1024 i 0 0 l) (omega (arith, high.n_high)) (omega (arith, high.m_high)) c.link.ensures;
+      head_long = omega (arith, k.0, high.n_high);
+      prev_long = omega (arith, k.1, high.m_high);
+      wide_long = omega (arith, c.requires.long.sure_long);
+      any_long = omega (arith, acc.shape.nodes.grants);
+    }
+
+pub settle-requires-2-clause-walkable : goal.settle-requires-2-clause-walkable
+settle-requires-2-clause-walkable c =
+    let acc = c.requires.acceptable in
+    let high = acc.shape.ranges in
+    let k = links_long c.link.ensures in
+    record {
+      setting = record { acc = acc; any = may_any _ _ _ _ _ _ (may_settled (goal.at.settle-requires-2-clause-walkable c).After-spread) };
+      linked = lists_linked _ _ _ acc (λ i l. get_or-replicate 1024 i 0 0 l) (omega (arith, high.n_high)) (omega (arith, high.m_high)) c.link.ensures;
+      head_long = omega (arith, k.0, high.n_high);
+      prev_long = omega (arith, k.1, high.m_high);
+      wide_long = omega (arith, c.spread.auto.out, c.requires.long.may_long);
+      any_long = omega (arith, c.settle.ensures.sums.past_long);
+    }
+
+pub returns : goal.returns
+returns c = ?

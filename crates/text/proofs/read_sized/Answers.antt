@@ -14,7 +14,7 @@ returns-in_err-size c =
 pub returns-in_err-hand_over : goal.returns-in_err-hand_over
 returns-in_err-hand_over c =
     let p = err_from_is_err_and c.from_residual-in_err-hand_over.result c.from_residual-in_err-hand_over.ensures.1 in
-    rw (p.1, p.2) (refused_after _ _ _ c.in_ok-size.ensures (clear_room c.new-slots.ensures) c.requires.1 (slots_handed _ _ c.lent.ensures c.in_err-hand_over.ensures))
+    rw (p.1, p.2) (refused_after _ _ _ c.in_ok-size.ensures (clear_room c.new-slots.ensures) c.requires.1 (slots_handed c.lent.result c.parse.new.into c.lent.ensures c.in_err-hand_over.ensures))
 
 pub returns : goal.returns
-returns c = taken _ _ _ c.in_ok-size.ensures (clear_room c.new-slots.ensures) c.requires.1 (slots_handed _ _ c.lent.ensures c.in_ok-hand_over.ensures)
+returns c = taken _ _ _ c.in_ok-size.ensures (clear_room c.new-slots.ensures) c.requires.1 (slots_handed c.lent.result c.parse.new.into c.lent.ensures c.in_ok-hand_over.ensures)

@@ -1,5 +1,5 @@
 // What a field of a row says.
-#![tactic(auto)]
+#![tactic(auto, unfolding(crate::specs::Fields::says, crate::specs::Fields::said_at))]
 
 ghost use Rattle.std.specs.Prelude.{◌≡◌};
 ghost use Rattle.fields.specs.Fields.{letter_of, says, said_at};
@@ -53,18 +53,6 @@ fn letter(l: &[u8]) -> u8
     }
 }
 
-fn read_tag(l: &[u8], b: u8) -> Option<usize>
-    ensures { result ≡ says (Form.Tag b) l.now }
-{
-    (letter(l) == b).then_some(0)
-}
-
-fn read_own(l: &[u8], i: usize) -> Option<usize>
-    ensures { result ≡ says (Form.Own i) l.now }
-{
-    scan::number(l, MOST_DIGITS).filter(|v| *v == i)
-}
-
 fn read_kind(l: &[u8]) -> Option<usize>
     ensures { result ≡ says Form.Kind l.now }
 {
@@ -73,22 +61,6 @@ fn read_kind(l: &[u8]) -> Option<usize>
         b"R" => Some(RETURN_NODE),
         b"K" => Some(CHECK_NODE),
         _ => None,
-    }
-}
-
-fn read_empty(l: &[u8]) -> Option<usize>
-    ensures { result ≡ says Form.Empty l.now }
-{
-    l.is_empty().then_some(0)
-}
-
-fn read_check(l: &[u8], kind: usize) -> Option<usize>
-    ensures { result ≡ says (Form.Check kind) l.now }
-{
-    if kind == CHECK_NODE {
-        scan::number(l, MOST_DIGITS)
-    } else {
-        read_empty(l)
     }
 }
 
@@ -119,14 +91,14 @@ pub fn decode(form: Form, l: &[u8]) -> Option<usize>
     ensures { result ≡ says form l.now }
 {
     match form {
-        Form::Tag(b) => read_tag(l, b),
+        Form::Tag(b) => (letter(l) == b).then_some(0),
         Form::Number => scan::number(l, MOST_DIGITS),
-        Form::Own(i) => read_own(l, i),
+        Form::Own(i) => scan::number(l, MOST_DIGITS).filter(|v| *v == i),
         Form::Kind => read_kind(l),
-        Form::Check(kind) => read_check(l, kind),
+        Form::Check(kind) if kind == CHECK_NODE => scan::number(l, MOST_DIGITS),
+        Form::Check(_) | Form::Empty => l.is_empty().then_some(0),
         Form::Marks => read_marks(l),
         Form::Way => read_way(l),
-        Form::Empty => read_empty(l),
     }
 }
 

@@ -1,5 +1,5 @@
 // RFC 4180: the field at a position of a text, and what follows it. A cursor is a position by value.
-#![tactic(auto)]
+#![tactic(auto, unfolding(crate::specs::Lex::followed, crate::specs::Lex::quoted_at, crate::specs::Lex::plain_at, crate::specs::Lex::field_at, crate::specs::Lex::before_at))]
 
 ghost use Rattle.std.specs.Prelude.{◌≡◌};
 ghost use Rattle.lex.specs.Lex.{followed, quoted_at, field_at, before_at};
@@ -29,7 +29,6 @@ pub struct Lexed {
 }
 
 // A field from start up to end, where the text goes on at `a`.
-#[tactic(auto, unfolding(crate::specs::Lex::followed))]
 fn follow(s: &[u8], start: usize, end: usize, a: usize) -> Option<Lexed>
     ensures { result ≡ followed s.now start end a }
 {
@@ -44,7 +43,6 @@ fn follow(s: &[u8], start: usize, end: usize, a: usize) -> Option<Lexed>
 }
 
 // A field that a quote opened just before `b`.
-#[tactic(auto, unfolding(crate::specs::Lex::quoted_at))]
 fn lex_quoted(s: &[u8], b: usize) -> Option<Lexed>
     ensures { result ≡ quoted_at s.now b }
 {
@@ -56,7 +54,6 @@ fn lex_quoted(s: &[u8], b: usize) -> Option<Lexed>
 }
 
 // The field at a position, and what follows it.
-#[tactic(auto, unfolding(crate::specs::Lex::field_at, crate::specs::Lex::plain_at))]
 pub fn lex(s: &[u8], at: usize) -> Option<Lexed>
     ensures { result ≡ field_at s.now at }
 {
@@ -68,7 +65,6 @@ pub fn lex(s: &[u8], at: usize) -> Option<Lexed>
 }
 
 // The field at a position, where the mark follows it.
-#[tactic(auto, unfolding(crate::specs::Lex::before_at))]
 pub fn part_before(s: &[u8], at: usize, mark: Mark) -> Option<Part>
     ensures { result ≡ before_at mark s.now at }
 {

@@ -1,6 +1,6 @@
 // What any reader of a text needs: a byte, a run of bytes of a class, a part of the text, a decimal number and an ascending list of them. A position is
 // a number by value, and a part is handed on as a slice of the caller's text.
-#![tactic(auto)]
+#![tactic(auto, unfolding(crate::specs::Scan::run, crate::specs::Scan::number_of))]
 
 ghost use Rattle.std.specs.Prelude.{◌≡◌, ◌+◌, ◌≤◌, length, get_or, drop};
 ghost use Rattle.scan.specs.Scan.{belongs, run, part_of, digits_from, number_of, members_of, held_of};
@@ -41,7 +41,6 @@ impl Class {
 }
 
 // How many bytes of a class the text begins with.
-#[tactic(auto, unfolding(crate::specs::Scan::run))]
 fn run_len(s: &[u8], class: Class) -> usize
     ensures { result ≡ run class s.now }
 {
@@ -90,7 +89,6 @@ fn read_digits(s: &[u8]) -> Option<usize>
 }
 
 // A decimal number of at most so many digits, with no needless zeros.
-#[tactic(auto, unfolding(crate::specs::Scan::number_of))]
 pub fn number(s: &[u8], most: usize) -> Option<usize>
     ensures { result ≡ number_of most s.now }
 {

@@ -1,5 +1,4 @@
 use mathlib.Core.Path.{sym, ◌∙◌}
-use Rattle.std.specs.Prelude.{Bool, true, false}
 use Rattle.truth.specs.Truth.Bools.{by_split}
 use Rattle.stacks.specs.Machine.Inspections.{full_lacks, full_stops, full_below}
 use Rattle.machine.proofs.by_rights.Goals as goal

@@ -1,6 +1,5 @@
-use Rattle.std.specs.Prelude.{Some, None}
 use Rattle.std.proofs.Common.{arith}
-use Rattle.machine.specs.Inspect.Looking.{AtFrame, looking_start, looking_passes, looking_fails, looking_below, looking_end}
+use Rattle.machine.specs.Inspect.Looking.{looking_start, looking_passes, looking_fails, looking_below, looking_end}
 use Rattle.machine.proofs.look.Goals as goal
 
 pub loop-i-init : goal.loop-i-init

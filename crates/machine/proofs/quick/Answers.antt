@@ -1,6 +1,5 @@
 use mathlib.Core.Path.{◌≡◌, refl}
 use Rattle.std.specs.Prelude.{Err}
-use Rattle.std.proofs.Common.{arith}
 use borrow.Author.Rules.{rules, lives}
 use Rattle.truth.specs.Truth.Tests.{says_true, says_false}
 use Rattle.stacks.specs.Machine.Inspections.{quick_bottom}

@@ -1,7 +1,6 @@
 -- The parts of a step: where it writes, and what an inspection's answer says of the check on top.
-use Rattle.std.specs.Prelude.{ℕ, ◌<◌, ◌≤◌, ◌≡◌, refl, List, Bool, Option, Some, None, true, false, get_or}
+use Rattle.std.specs.Prelude.{ℕ, ◌<◌, ◌≡◌, refl, List, Bool, Option, Some, None, true, false, get_or}
 use Rattle.std.specs.Bool.{then_some}
-use Rattle.std.proofs.Common.{arith}
 use Rattle.graph.specs.Graph.{Graph, Leads}
 use Rattle.stacks.specs.Machine.{Inspected}
 use Rattle.machine.specs.declared.Inspection.TheVariants as inspection

@@ -7,7 +7,7 @@ use Rattle.graph.specs.Graph.{Graph, Acceptable, Leads}
 use Rattle.stacks.specs.Machine.{stack_of, Step, Reachable}
 use Rattle.stacks.specs.Machine.Slices.{bare, height_of}
 use Rattle.frames.specs.Frames.{Frame, StackFits}
-use Rattle.std.specs.Prelude.{Ok, Err}
+use Rattle.std.specs.Prelude.{Ok}
 use Rattle.machine.specs.Steps.{Rule, RuleOf, Steps}
 use Rattle.machine.specs.Steps.Sound.{step_reaches, step_complete, step_takes}
 

@@ -3,7 +3,7 @@ use Rattle.std.specs.Prelude.{ℕ, ◌<◌, ◌+◌, ◌-◌, ◌≡◌, refl, L
 use Rattle.std.proofs.Common.{sym, ◌∙◌, ap, arith, eqb-true, eq-eqb}
 use Rattle.truth.specs.Truth.Bools.{by_split, clash}
 use Rattle.graph.specs.Graph.{Graph, kind, check}
-use Rattle.std.specs.Prelude.{Ok, Err}
+use Rattle.std.specs.Prelude.{Ok}
 use Rattle.stacks.specs.Machine.{rights_of, stack_of, full, Step, Reachable}
 use Rattle.stacks.specs.Machine.Slices.{bare, written, topped, topped_twice, height_of, has_top, its_top, its_rest}
 use Rattle.machine.specs.Inspect.{Asks}

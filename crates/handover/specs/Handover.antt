@@ -3,11 +3,13 @@ pub mod Copies
 pub mod Laws
 use Rattle.std.specs.Prelude.{ℕ, ◌≡◌, List, Bool, ◌&&◌, length, take, eqb}
 use Rattle.std.proofs.lemmas.List.Edits.{sets}
-use Rattle.graph.specs.Graph.{Graph, PerNode, PerEdge, map_node, map_edge, every_node, every_edge, NodesLong, EdgesLong}
+use Rattle.graph.specs.Graph.{Graph, PerNode, PerEdge, nodes_of, edges_of, map_node, map_edge, every_node, every_edge, NodesLong, EdgesLong}
 use Rattle.graph.specs.Judge.{Judges}
 use Rattle.graph.specs.Lent.{nodes_lent, edges_lent, node_places, edge_places}
 use Rattle.graph.specs.declared.LentGraph.{LentGraph}
 use Rattle.graph.specs.declared.GraphPlaces.{GraphPlaces}
+use Rattle.graph.specs.declared.NodePlaces.{NodePlaces}
+use Rattle.graph.specs.declared.EdgePlaces.{EdgePlaces}
 use Rattle.extent.specs.Extent.{most_nodes, most_edges}
 use Rattle.graph.specs.declared.Size.{Size}
 use Rattle.graph.specs.declared.Refusal.{Refusal}
@@ -26,6 +28,18 @@ lists_lent x = record { nodes = nodes_lent x.nodes; edges = edges_lent x.edges }
 
 abbrev pub places : GraphPlaces → Lent
 places x = record { nodes = node_places x.nodes; edges = edge_places x.edges }
+
+-- Which slices they are, by the names that proofs have for them. What a call writes to places that stay the same is written to the slices that they were
+-- made of.
+abbrev pub node_names : NodePlaces → PerNode ℕ
+node_names x = nodes_of x.kinds.ghost_name x.checks.ghost_name x.privileged.ghost_name x.entries.ghost_name x.grants.ghost_name
+
+abbrev pub edge_names : EdgePlaces → PerEdge ℕ
+edge_names x = edges_of x.froms.ghost_name x.tos.ghost_name x.ways.ghost_name
+
+pub record SamePlaces (before after : GraphPlaces) : Type 0 where
+  pub nodes : node_names after.nodes ≡ node_names before.nodes
+  pub edges : edge_names after.edges ≡ edge_names before.edges
 
 -- Room for every graph.
 pub record Room (x : Lent) : Type 0 where

@@ -5,7 +5,7 @@ ghost use Rattle.std.specs.Prelude.{◌≡◌, ◌≤◌, length, take};
 ghost use Rattle.std.proofs.lemmas.List.Edits.{sets};
 ghost use Rattle.graph.specs.Graph.{map_node, map_edge, NodesLong, EdgesLong, Ranges};
 ghost use Rattle.graph.specs.Lent.{lent, nodes_lent, edges_lent, node_places, edge_places};
-ghost use Rattle.handover.specs.Handover.{lists_lent, places, Room, held_graph, NodesWritten, EdgesWritten, HeldJudged, HandsOver};
+ghost use Rattle.handover.specs.Handover.{lists_lent, places, node_names, edge_names, SamePlaces, Room, held_graph, NodesWritten, EdgesWritten, HeldJudged, HandsOver};
 
 use graph::{EdgePlaces, GraphPlaces, LentEdges, LentGraph, LentNodes, NodePlaces, Refusal, Size};
 
@@ -22,7 +22,8 @@ fn store_nodes(into: &mut NodePlaces, held: &LentNodes, n: usize)
     requires counted { n ≤ 1024 }
     requires room { NodesLong 1024 (map_node length (node_places into.old)) }
     requires full { NodesLong 1024 (map_node length (nodes_lent held.now)) }
-    ensures { NodesWritten (node_places into.old) (map_node (take n) (nodes_lent held.now)) (node_places into.new) }
+    ensures stored { NodesWritten (node_places into.old) (map_node (take n) (nodes_lent held.now)) (node_places into.new) }
+    ensures same_places { node_names into.new ≡ node_names into.old }
 {
     copy(into.kinds, held.kinds, n);
     copy(into.checks, held.checks, n);
@@ -36,7 +37,8 @@ fn store_edges(into: &mut EdgePlaces, held: &LentEdges, m: usize)
     requires counted { m ≤ 4096 }
     requires room { EdgesLong 4096 (map_edge length (edge_places into.old)) }
     requires full { EdgesLong 4096 (map_edge length (edges_lent held.now)) }
-    ensures { EdgesWritten (edge_places into.old) (map_edge (take m) (edges_lent held.now)) (edge_places into.new) }
+    ensures stored { EdgesWritten (edge_places into.old) (map_edge (take m) (edges_lent held.now)) (edge_places into.new) }
+    ensures same_places { edge_names into.new ≡ edge_names into.old }
 {
     copy(into.froms, held.froms, m);
     copy(into.tos, held.tos, m);
@@ -83,7 +85,8 @@ fn judge(held: &LentGraph) -> Result<(), Refusal>
 // Hands over the graph of this size that the first places of slices with room hold: stores it in the first places of the lent ones, or refuses and
 // stores nothing.
 pub fn hand_over(held: &LentGraph, into: &mut GraphPlaces) -> Result<(), Refusal>
-    ensures { HandsOver held.now.size (lists_lent held.now) (places into.old) result (places into.new) }
+    ensures handed { HandsOver held.now.size (lists_lent held.now) (places into.old) result (places into.new) }
+    ensures same_places { SamePlaces into.old into.new }
 {
     if !extent::has_room(into.nodes.lengths(), into.edges.lengths()) {
         return Err(Refusal::Shape);

@@ -7,7 +7,7 @@ ghost use Rattle.graph.specs.declared.Edge.{Edge};
 ghost use Rattle.scan.specs.declared.At.{At};
 ghost use Rattle.extent.specs.declared.NodeSlots.{NodeSlots};
 ghost use Rattle.extent.specs.declared.EdgeSlots.{EdgeSlots};
-ghost use Rattle.handover.specs.Handover.{places, Room};
+ghost use Rattle.handover.specs.Handover.{places, SamePlaces, Room};
 ghost use Rattle.text.specs.Text.{edge_row, on_meaning, text_at, reading_from, reading, Tells};
 ghost use Rattle.text.specs.Text.Parts.{kept_row, node_put, edge_put, RowsRead, slots, Parses};
 
@@ -127,7 +127,8 @@ fn read_sized(
     into: &mut GraphPlaces,
 ) -> Result<Size, Refusal>
     requires { (row < 4294967296) × Room (places into.old) }
-    ensures { Tells (on_meaning (text_at text.now from row)) (places into.old) result (places into.new) }
+    ensures tells { Tells (on_meaning (text_at text.now from row)) (places into.old) result (places into.new) }
+    ensures same_places { SamePlaces into.old into.new }
 {
     let mut slots = Slots::new();
     let size = parse(&mut slots, text, from, row)?;
@@ -143,7 +144,8 @@ pub fn read_from(
     row: u32,
     into: &mut GraphPlaces,
 ) -> Result<Size, Refusal>
-    ensures { Tells (reading_from (places into.old) text.now from row) (places into.old) result (places into.new) }
+    ensures tells { Tells (reading_from (places into.old) text.now from row) (places into.old) result (places into.new) }
+    ensures same_places { SamePlaces into.old into.new }
 {
     extent::judge_sizes(into.nodes.lengths(), into.edges.lengths(), text.len())?;
     read_sized(text, from, row as usize, into)
@@ -151,7 +153,8 @@ pub fn read_from(
 
 // Reads a whole text so.
 pub fn read(text: &[u8], into: &mut GraphPlaces) -> Result<Size, Refusal>
-    ensures { Tells (reading (places into.old) text.now) (places into.old) result (places into.new) }
+    ensures tells { Tells (reading (places into.old) text.now) (places into.old) result (places into.new) }
+    ensures same_places { SamePlaces into.old into.new }
 {
     read_from(text, 0, 1, into)
 }

@@ -1,5 +1,4 @@
 use Rattle.truth.specs.Truth.Tests.{says_same, says_true, says_false}
-use Rattle.truth.specs.Truth.{fails}
 use Rattle.extent.proofs.has_room.Goals as goal
 
 pub returns-then-nodes_long : goal.returns-then-nodes_long

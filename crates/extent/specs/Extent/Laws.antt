@@ -1,5 +1,5 @@
 -- That lengths are judged in one way.
-use Rattle.std.specs.Prelude.{ℕ, ◌≤◌, ◌<◌, ◌≡◌, refl}
+use Rattle.std.specs.Prelude.{ℕ, ◌≡◌, refl}
 use Rattle.std.proofs.Common.{arith}
 use Rattle.graph.specs.Graph.{PerNode, PerEdge}
 use Rattle.graph.specs.Refusals.{Judged}

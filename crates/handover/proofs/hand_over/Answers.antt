@@ -17,13 +17,13 @@ module _ (c : In_ok-judge) where
   fine : Fine c.args.held.now.size (lists_lent c.args.held.now)
   fine = held_fine c.in_ok-judge.ensures
 
-pub returns-then-not-has_room : goal.returns-then-not-has_room
-returns-then-not-has_room c = cramped (says_false (room (goal.at.returns-then-not-has_room c).After-has_room) c.if-not-has_room.true)
+pub returns-then-not-has_room-clause-handed : goal.returns-then-not-has_room-clause-handed
+returns-then-not-has_room-clause-handed c = cramped (says_false (room (goal.at.returns-then-not-has_room-clause-handed c).After-has_room) c.if-not-has_room.true)
 
-pub returns-in_err-judge : goal.returns-in_err-judge
-returns-in_err-judge c =
+pub returns-in_err-judge-clause-handed : goal.returns-in_err-judge-clause-handed
+returns-in_err-judge-clause-handed c =
     let p = err_from_is_err_and c.from_residual.result c.from_residual.ensures.1 in
-    rw (p.1, p.2) (refused (says_true (room (goal.at.returns-in_err-judge c).After-has_room) c.if-not-has_room.false) c.in_err-judge.ensures)
+    rw (p.1, p.2) (refused (says_true (room (goal.at.returns-in_err-judge-clause-handed c).After-has_room) c.if-not-has_room.false) c.in_err-judge.ensures)
 
 pub store_nodes-requires : goal.store_nodes-requires
 store_nodes-requires c =
@@ -35,6 +35,6 @@ store_edges-requires c =
     let f = fine (goal.at.store_edges-requires c).In_ok-judge in
     record { counted = f.ranges.m_high; room = (says_true (room (goal.at.store_edges-requires c).After-has_room) c.if-not-has_room.false).edges; full = f.room.edges }
 
-pub returns : goal.returns
-returns c =
-    accepted (says_true (room (goal.at.returns c).After-has_room) c.if-not-has_room.false) c.in_ok-judge.ensures (record { nodes = c.store_nodes.ensures; edges = c.store_edges.ensures })
+pub returns-clause-handed : goal.returns-clause-handed
+returns-clause-handed c =
+    accepted (says_true (room (goal.at.returns-clause-handed c).After-has_room) c.if-not-has_room.false) c.in_ok-judge.ensures (record { nodes = c.store_nodes.ensures.stored; edges = c.store_edges.ensures.stored })

@@ -1,6 +1,6 @@
 -- Copies of the first places of a slice.
 use Rattle.std.specs.Prelude.{ℕ, ◌≤◌, ◌≡◌, List, ◌++◌, length, take, drop}
-use Rattle.std.proofs.Common.{sym, ◌∙◌, arith, zero-add}
+use Rattle.std.proofs.Common.{sym, arith, zero-add}
 use Rattle.std.proofs.lemmas.List.{length-take-le}
 use Rattle.std.proofs.lemmas.List.Edits.{sets, sets-eq}
 

@@ -6,15 +6,15 @@ use Rattle.text.proofs.read_sized.Goals as goal
 pub parse-requires : goal.parse-requires
 parse-requires c = c.requires.0
 
-pub returns-in_err-size : goal.returns-in_err-size
-returns-in_err-size c =
+pub returns-in_err-size-clause-tells : goal.returns-in_err-size-clause-tells
+returns-in_err-size-clause-tells c =
     let p = err_from_is_err_and c.from_residual.result c.from_residual.ensures.1 in
     rw (p.1, p.2) (wrong_tells _ _ _ c.in_err-size.ensures)
 
-pub returns-in_err-hand_over : goal.returns-in_err-hand_over
-returns-in_err-hand_over c =
+pub returns-in_err-hand_over-clause-tells : goal.returns-in_err-hand_over-clause-tells
+returns-in_err-hand_over-clause-tells c =
     let p = err_from_is_err_and c.from_residual-in_err-hand_over.result c.from_residual-in_err-hand_over.ensures.1 in
-    rw (p.1, p.2) (refused_after _ _ _ c.in_ok-size.ensures (clear_room c.new-slots.ensures) c.requires.1 (slots_handed c.lent.result c.parse.new.into c.lent.ensures c.in_err-hand_over.ensures))
+    rw (p.1, p.2) (refused_after _ _ _ c.in_ok-size.ensures (clear_room c.new-slots.ensures) c.requires.1 (slots_handed c.lent.result c.parse.new.into c.lent.ensures c.in_err-hand_over.ensures.handed))
 
-pub returns : goal.returns
-returns c = taken _ _ _ c.in_ok-size.ensures (clear_room c.new-slots.ensures) c.requires.1 (slots_handed c.lent.result c.parse.new.into c.lent.ensures c.in_ok-hand_over.ensures)
+pub returns-clause-tells : goal.returns-clause-tells
+returns-clause-tells c = taken _ _ _ c.in_ok-size.ensures (clear_room c.new-slots.ensures) c.requires.1 (slots_handed c.lent.result c.parse.new.into c.lent.ensures c.in_ok-hand_over.ensures.handed)

@@ -1,4 +1,4 @@
-use Rattle.std.proofs.Common.{rules, arith}
+use Rattle.std.proofs.Common.{rules}
 use Rattle.extent.specs.Room.Laws.{zeros}
 use Rattle.extent.proofs.Slots.new.Goals as goal
 

@@ -1,4 +1,5 @@
 -- The bytes that a result is printed as, and what the call that writes them promises. Definitions alone. 44 is the comma, 13 CR, 10 LF.
+pub mod Shown
 pub mod Rows
 pub mod Calls
 use Rattle.std.specs.Prelude.{ℕ, zero, suc, ◌+◌, ◌≤◌, ◌≡◌, List, [], ◌∷◌, ◌++◌, cond, length, get_or, eqb}

@@ -1,6 +1,5 @@
-use Rattle.writer.specs.Writer.Places.{puts_then, lent}
+use Rattle.writer.specs.Writer.Places.{adds_then}
 use Rattle.rows.proofs.put_result.Goals as goal
 
 pub returns : goal.returns
-returns c =
-    puts_then (lent c.well_formed.0.0) c.put_all-at.ensures c.put_rows.ensures
+returns c = adds_then c.put_all.ensures c.put_rows.ensures

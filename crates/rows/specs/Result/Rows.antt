@@ -9,11 +9,14 @@ use Rattle.std.proofs.Math.ListN.{length-append}
 use Rattle.truth.specs.Truth.Bools.{by_split}
 use Rattle.sets.specs.Sets.{has}
 use Rattle.graph.specs.Graph.{verdict_of}
-use Rattle.writer.specs.Writer.{decimal, last_place, Puts}
-use Rattle.writer.specs.Writer.Places.{puts_none, puts_then, puts_as}
+use Rattle.writer.specs.declared.Writer.{Writer}
+use Rattle.writer.specs.Writer.{decimal, Adds}
+use Rattle.writer.specs.Writer.Places.{adds_none, adds_then, adds_as}
 use Rattle.writer.specs.Writer.Numbers.{decimal_short}
 use Rattle.members.specs.Members.{set_bytes}
 use Rattle.members.specs.Members.Laws.{set_short}
+use Rattle.rows.specs.declared.Shown.{Shown}
+use Rattle.rows.specs.Result.Shown.{shown_bytes}
 use Rattle.rows.specs.Result.{verdict_bytes, row_bytes, header_bytes, rows_from, result_bytes}
 
 pub verdict_short : (kind check denied granted : ℕ) → length (verdict_bytes kind check denied granted) ≤ 20
@@ -58,20 +61,17 @@ module _ (kinds checks denied granted : List ℕ) where
       ∙ ap (λ l. row_at i ++ l) (ap (λ j. rows_from kinds checks denied granted (i + 1) count ++ row_at j) e ∙ rows_more (i + 1) count)
 
   -- rows of the nodes below i, and one more
-  pub rowing_start : {l : List ℕ} {from : ℕ} → from ≤ last_place → Puts (rows_from kinds checks denied granted 0 0) l from from l
+  pub rows_none : {w : Writer} → Adds (rows_from kinds checks denied granted 0 0) w w
   unfolding rows_from
-  rowing_start h = puts_none h
+  rows_none = adds_none
 
-  pub rowing_more : {l m n : List ℕ} {from next next' : ℕ} (i : ℕ) → length l ≤ last_place → Puts (rows_from kinds checks denied granted 0 i) l from next m
-      → Puts (row_bytes i (get_or kinds i 0) (get_or checks i 0) (get_or denied i 0) (get_or granted i 0)) m next next' n → Puts (rows_from kinds checks denied granted 0 (i + 1)) l from next' n
-  rowing_more i short r p =
-      let z : 0 + i ≡ i = omega arith in
+  pub rows_next : {u v w : Writer} (i : ℕ) → Adds (rows_from kinds checks denied granted 0 i) u v
+      → Adds (row_bytes i (get_or kinds i 0) (get_or checks i 0) (get_or denied i 0) (get_or granted i 0)) v w → Adds (rows_from kinds checks denied granted 0 (i + 1)) u w
+  rows_next i a b =
+      let z : i ≡ 0 + i = omega arith in
       let e : rows_from kinds checks denied granted 0 i ++ row_at i ≡ rows_from kinds checks denied granted 0 (i + 1) =
-      ap (λ j. rows_from kinds checks denied granted 0 i ++ row_at j) (sym z) ∙ rows_more 0 i ∙ ap (rows_from kinds checks denied granted 0) (sym (add-one i)) in
-      puts_as e (puts_then short r p)
-
-  pub rowing_end : {l m : List ℕ} {from next : ℕ} (i n : ℕ) → Puts (rows_from kinds checks denied granted 0 i) l from next m → i ≡ n → Puts (rows_from kinds checks denied granted 0 n) l from next m
-  rowing_end i n r e = puts_as (ap (rows_from kinds checks denied granted 0) e) r
+      ap (λ j. rows_from kinds checks denied granted 0 i ++ row_at j) z ∙ rows_more 0 i ∙ ap (rows_from kinds checks denied granted 0) (sym (add-one i)) in
+      adds_as e (adds_then a b)
 
   rows_short : (i count : ℕ) → length (rows_from kinds checks denied granted i count) ≤ count * 429
   unfolding rows_from
@@ -86,3 +86,6 @@ module _ (kinds checks denied granted : List ℕ) where
 
   pub result_short : (n : ℕ) → length (result_bytes n kinds checks denied granted) ≤ n * 429 + 29
   result_short n = omega (arith, length-append header_bytes (rows_from kinds checks denied granted 0 n), rows_short 0 n)
+
+pub shown_short : (s : Shown) → length (shown_bytes s) ≤ s.n * 429 + 29
+shown_short s = result_short s.kinds.now s.checks.now s.sets.denied.now s.sets.granted.now s.n

@@ -2,7 +2,6 @@
 pub mod Bools
 pub mod Tests
 pub mod Folds
-pub mod Searches
 pub mod Kit
 use Rattle.std.specs.Prelude.{ℕ, zero, suc, ◌≤◌, ◌<◌, Bool, true, false, cond, ◌&&◌, ◌||◌, ltb, Option, Some, None}
 

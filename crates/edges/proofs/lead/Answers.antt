@@ -1,6 +1,6 @@
 use borrow.Author.Rules.{rules}
 use Rattle.truth.specs.Truth.Tests.{says_same, says_no, says_true, says_false}
-use Rattle.truth.specs.Truth.Searches.{any_below}
+use Rattle.truth.proofs.Truth.Searches.{any_below}
 use Rattle.graph.specs.Graph.{edge_at}
 use Rattle.graph.specs.Lent.{edges_lent}
 use Rattle.edges.specs.Leading.Search.{Joins, search_says}

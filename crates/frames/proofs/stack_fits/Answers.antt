@@ -2,7 +2,7 @@ use borrow.Author.Rules.{rules}
 use borrow.Author.Tests.{tests}
 use Rattle.std.proofs.Common.{◌<◌}
 use Rattle.truth.specs.Truth.Tests.{says_same, says_no}
-use Rattle.truth.specs.Truth.Searches.{all_of, all_front}
+use Rattle.truth.proofs.Truth.Searches.{all_of, all_front}
 use Rattle.frames.proofs.stack_fits.Goals as goal
 
 pub returns-then-height-stack : goal.returns-then-height-stack

@@ -5,8 +5,9 @@ use Rattle.judge.proofs.edge_obeys.Goals as goal
 
 pub returns-then-to-graph : goal.returns-then-to-graph
 returns-then-to-graph c =
-    let ends = rw (c.from-from.ensures, c.from-to.ensures) at c.ends_obey.ensures in
-    says_same ends (λ h. record { from_node = search rules; to_node = search rules; ends = h }) (λ r. r.ends)
+    says_same c.ends_obey.ensures
+    (λ h. record { from_node = search rules; to_node = search rules; ends = rw (← c.from-from.ensures, ← c.from-to.ensures) h })
+    (λ r. rw (← c.from-from.ensures, ← c.from-to.ensures) at r.ends)
 
 pub returns-else-to-graph : goal.returns-else-to-graph
 returns-else-to-graph c = says_no c.if-to-graph.false (λ r. search (rules, tests))

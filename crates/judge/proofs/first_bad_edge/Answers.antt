@@ -1,6 +1,6 @@
 use borrow.Author.Rules.{rules}
 use Rattle.truth.specs.Truth.Tests.{says_true, says_false}
-use Rattle.truth.specs.Truth.Searches.{finds_below}
+use Rattle.truth.proofs.Truth.Searches.{finds_below}
 use Rattle.graph.specs.Graph.{EdgeObeys}
 use Rattle.graph.specs.Lent.{lent}
 use Rattle.judge.proofs.first_bad_edge.Goals as goal

@@ -1,6 +1,6 @@
 -- Laws of tests and searches.
-use Rattle.std.specs.Prelude.{ℕ, zero, suc, ◌+◌, ◌≤◌, ◌<◌, Bool, true, false, cond, not, ◌&&◌, ◌||◌, ◌≡◌, refl, ◌⊎◌, leb, ltb, eqb, Option, Some, None}
-use Rattle.std.proofs.Common.{subst, ap, inl, inr, ⊎_elim, arith, below_more, leb-true, leb-false, ltb-true, ltb-false, eqb-true}
+use Rattle.std.specs.Prelude.{ℕ, zero, suc, ◌+◌, ◌≤◌, ◌<◌, Bool, true, false, cond, not, ◌&&◌, ◌||◌, ◌≡◌, refl, ◌⊎◌, leb, ltb, eqb, Some, None}
+use Rattle.std.proofs.Common.{subst, inl, inr, ⊎_elim, arith, below_more, leb-true, leb-false, ltb-true, ltb-false, eqb-true}
 use Rattle.std.proofs.Math.Logic.{dite}
 use Rattle.std.proofs.Math.Decide.{dec_lt}
 use Rattle.std.proofs.lemmas.Bool.{eqb-false}
@@ -141,13 +141,6 @@ finds_first (found h f) = f
 -- P fails at what is found
 pub finds_broken : {P : ℕ → Type 0} {n r : ℕ} → Finds P n (Some r) → P r → ⊥
 finds_broken (found h f) = f.broken h
-
--- one answer is left
-pub finds_one : {P : ℕ → Type 0} {n : ℕ} {a b : Option ℕ} → Finds P n a → Finds P n b → a ≡ b
-finds_one (nowhere a) (nowhere b) = refl
-finds_one (nowhere a) (found h f) = absurd (first_some f h a)
-finds_one (found h f) (nowhere a) = absurd (first_some f h a)
-finds_one (found h f) (found k g) = ap Some (first_one f g)
 
 -- a search that stops at r, having come there
 pub stops_at : {P : ℕ → Type 0} {n r : ℕ} → All P r → r < n → (P r → ⊥) → Finds P n (Some r)

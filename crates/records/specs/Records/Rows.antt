@@ -1,6 +1,6 @@
 -- What follows from what a row says.
 use Rattle.std.specs.Prelude.{ℕ, ◌<◌, ◌≡◌, refl, List, Option, Some, None}
-use Rattle.std.proofs.Common.{ap, subst}
+use Rattle.std.proofs.Common.{subst}
 use Rattle.std.proofs.lemmas.Option.{none-some, same_Some, cond_some}
 use Rattle.truth.specs.Truth.Tests.{says_true}
 use Rattle.scan.specs.declared.At.{At}
@@ -18,7 +18,7 @@ use Rattle.fields.specs.Fields.{G, N, most_digits, form_at, end_at}
 use Rattle.fields.specs.Fields.Forms.{Below, number, check, kind, marks, form_below}
 use Rattle.records.specs.declared.Lead.{Lead}
 use Rattle.records.specs.declared.Three.{Three}
-use Rattle.records.specs.Records.{◌⟫◌, read_as, grants_by, grants_at, three_at, header_at, lead_at}
+use Rattle.records.specs.Records.{◌⟫◌, grants_at, three_at, header_at, lead_at}
 
 -- what is read past another thing was read where that thing was
 pub past : {X Y P : Type 0} (o : Option (At X)) (f : X → (next : ℕ) → Option Y) {y : Y} → (o ⟫ f) ≡ Some y → ((x : At X) → o ≡ Some x → f x.value x.next ≡ Some y → P) → P

@@ -1,24 +1,25 @@
 -- Fields that are short and have no quotes, by their bytes.
-use Rattle.std.specs.Prelude.{ℕ, zero, suc, ◌+◌, ◌-◌, ◌*◌, ◌^◌, ◌%◌, ◌≤◌, ◌<◌, cond, Bool, true, false, length, get_or, slice_get, leb, ltb, eqb, Option, Some, None, option_map, IfSome}
+use Rattle.std.specs.Prelude.{ℕ, zero, suc, ◌+◌, ◌-◌, ◌*◌, ◌^◌, ◌%◌, ◌≤◌, ◌<◌, Bool, true, false, get_or, slice_get, leb, Option, Some, None, option_map, IfSome}
 use Rattle.std.proofs.Math.Path.{◌≡◌, refl, ap}
 use Rattle.std.proofs.Common.{sym, ◌∙◌, subst, arith, lit<, lt-ltb}
 use Rattle.std.specs.Bool.{then_some}
+use Rattle.std.specs.Char.{is_ascii_digit}
+use Rattle.std.proofs.lemmas.Bool.{and_parts}
 use Rattle.std.proofs.lemmas.Option.{none-some, same_Some}
 use mathlib.Core.List.{List, [], ◌∷◌, ◌++◌}
 use Rattle.std.proofs.Math.ListN.{length-append}
 use Rattle.std.specs.Int.Bits.{bit_or}
 use Rattle.std.proofs.lemmas.Nat.{or_lt}
 use Rattle.std.proofs.Math.Pow.{pow-lt}
-use borrow.Author.Tests.{eq-eqb, le-leb, leb-true, eqb-true, eqb-false}
+use borrow.Author.Tests.{eq-eqb, leb-true}
 use Rattle.truth.specs.Truth.Bools.{by_split}
 use Rattle.truth.specs.Truth.Kit.{shl_one}
 use Rattle.scan.specs.declared.At.{At}
 use Rattle.scan.specs.declared.Listed.{Listed}
 use Rattle.scan.specs.declared.Listed.TheVariants.{Held}
-use Rattle.scan.specs.Scan.{read_to, nought, nine, digits_from, number_of, members_of, listed}
-use Rattle.scan.specs.Scan.Numbers.{number_none, number_zero, number_needless, number_digits}
+use Rattle.scan.specs.Scan.{read_to, nought, number_of, members_of, listed}
 use Rattle.scan.specs.Scan.Bare.{Bare, none, byte, calm_above, bare_then, bare_long, bare_part}
-use Rattle.scan.specs.Scan.Digits.{Digital, end, digit, digital_bare, number_1, Listing, listing_start, listing_next, listing_last}
+use Rattle.scan.specs.Scan.Digits.{Digital, end, digit, digital_bare, digital_more, number_one, number_more, Listing, listing_start, listing_next, listing_last}
 use Rattle.lex.specs.Lex.Bare.{bare_comma, bare_end}
 use Rattle.fields.specs.declared.Form.{Form}
 use Rattle.fields.specs.declared.Form.TheVariants.{Tag, Number, Own, Kind, Check, Marks, Way, Empty}
@@ -39,15 +40,13 @@ let_through P false e h = rw e tt
 
 -- The digit that a byte is.
 abbrev pub digit_of : ℕ → Option ℕ
-digit_of b = cond (leb nought b) (cond (leb b nine) (Some (b - nought)) None) None
+digit_of b = then_some (is_ascii_digit b) (b - nought)
 
 digit_is : (b : ℕ) {d : ℕ} → digit_of b ≡ Some d → (b ≡ d + 48) × (d ≤ 9)
 digit_is b e =
-    by_split (leb 48 b)
-    (λ lo. by_split (leb b 57)
-    (λ hi. let z = same_Some (b - 48) _ (simp (lo, hi) at e) in (omega (arith, z, leb-true 48 b lo), omega (arith, z, leb-true b 57 hi)))
-    (λ hi. absurd (none-some _ (simp (lo, hi) at e))))
-    (λ lo. absurd (none-some _ (simp lo at e)))
+    by_split (is_ascii_digit b)
+    (λ t. let p = and_parts (leb 48 b) (leb b 57) t in let z = same_Some (b - 48) _ (simp t at e) in (omega (arith, z, leb-true 48 b p.0), omega (arith, z, leb-true b 57 p.1)))
+    (λ t. absurd (none-some _ (simp t at e)))
 
 pub digit_low : (b : ℕ) {d : ℕ} → digit_of b ≡ Some d → d ≤ 9
 digit_low b e = (digit_is b e).1
@@ -60,45 +59,11 @@ pub record Numeral (s : List ℕ) (at : ℕ) (x : At ℕ) : Type 0 where
   pub some : at < x.next
   pub near : x.next ≤ at + 4
 
-digital_more : {s : List ℕ} {at e p d : ℕ} {w : List ℕ} → Digital s at w e → p ≡ e + 1 → get_or s e 0 ≡ d + 48 → d ≤ 9 → Digital s at (w ++ (d + 48) ∷ []) p
-digital_more end j q h = digit j q h end
-digital_more (digit i p k r) j q h = digit i p k (digital_more r j q h)
-
-digits_more : (w l : List ℕ) (u : ℕ) {v : ℕ} → digits_from u w ≡ Some v → digits_from u (w ++ l) ≡ digits_from v l
-unfolding digits_from
-digits_more [] l u e = ap (λ x. digits_from x l) (same_Some _ _ e)
-digits_more (b ∷ w) l u e =
-    by_split (leb 48 b)
-    (λ lo. by_split (leb b 57)
-    (λ hi. simp (lo, hi) (digits_more w l (u * 10 + (b - 48)) (simp (lo, hi) at e)))
-    (λ hi. absurd (none-some _ (simp (lo, hi) at e))))
-    (λ lo. absurd (none-some _ (simp lo at e)))
-
-digit_last : (v : ℕ) {d : ℕ} → d ≤ 9 → digits_from v ((d + 48) ∷ []) ≡ Some (v * 10 + d)
-unfolding digits_from
-digit_last v {d} h =
-    let lo : 48 ≤ d + 48 = omega arith in
-    let hi : d + 48 ≤ 57 = omega arith in
-    simp (le-leb _ _ lo, le-leb _ _ hi) (ap Some (omega arith))
-
--- a digit more, where the number is not 0
-number_more : (w : List ℕ) {v d : ℕ} → number_of 4 w ≡ Some v → 0 < v → length w ≤ 3 → d ≤ 9 → number_of 4 (w ++ (d + 48) ∷ []) ≡ Some (v * 10 + d)
-number_more [] e z m h = absurd (none-some _ (sym (number_none 4 [] refl) ∙ e))
-number_more (b ∷ w) {v} {d} e z m h =
-    by_split (eqb b 48)
-    (λ t. by_split (eqb (length w) 0)
-    (λ u. let n = eqb-true _ _ u in absurd (omega (arith, z, same_Some 0 v (sym (number_zero 4 (b ∷ w) (λ p. omega (arith, p)) (omega arith) (omega arith) (eqb-true b 48 t) (omega (arith, n))) ∙ e))))
-    (λ u. absurd (none-some _ (sym (number_needless 4 (b ∷ w) (λ p. omega (arith, p)) (omega arith) (omega arith) (eqb-true b 48 t) (λ p. eqb-false _ _ u (omega (arith, p)))) ∙ e))))
-    (λ t.
-    let from = number_digits 4 (b ∷ w) (λ p. omega (arith, p)) (omega arith) (omega arith) (eqb-false b 48 t) in
-    number_digits 4 (b ∷ (w ++ (d + 48) ∷ [])) (λ p. omega (arith, p)) (omega (arith, length-append w ((d + 48) ∷ []))) (omega (arith, length-append w ((d + 48) ∷ []))) (eqb-false b 48 t)
-    ∙ digits_more (b ∷ w) _ 0 (sym from ∙ e) ∙ digit_last v h)
-
 module _ {s : List ℕ} {at : ℕ} where
   pub numeral_first : {b d : ℕ} → get_or s at 0 ≡ b → digit_of b ≡ Some d → Numeral s at (read_to d (at + 1))
   numeral_first {b} p e =
       let d = digit_is b e in
-      record { digits = _; stand = digit refl (p ∙ d.0) d.1 end; number = number_1 d.1; some = omega arith; near = omega arith }
+      record { digits = _; stand = digit refl (p ∙ d.0) d.1 end; number = number_one d.1; some = omega arith; near = omega arith }
 
   pub numeral_more : {v next b d : ℕ} → Numeral s at (read_to v next) → 0 < v → next < at + 4 → get_or s next 0 ≡ b → digit_of b ≡ Some d → Numeral s at (read_to (v * 10 + d) (next + 1))
   numeral_more {b = b} n z m p e =

@@ -39,6 +39,7 @@ pub fn judge_sizes(nodes: NodeLengths, edges: EdgeLengths, text: usize) -> Resul
 
 // The answer where the last rows of a text of this length ended so, past the last of them or at a wrong one, and a row after them would have the number
 // `extra`.
+#[tactic(auto, unfolding(crate::specs::Extent::end_of))]
 pub fn end_text(
     ran: Result<usize, Refusal>,
     len: usize,

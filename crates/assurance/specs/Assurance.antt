@@ -1,12 +1,11 @@
 -- What the calls return, taken together: after `solve` accepted a graph, `quick` by its sets returns on every reachable stack what `full`
 -- does, after no more frames, and what `verdict` says of a check holds on every reachable stack with the check on top.
-use Rattle.std.specs.Prelude.{ℕ, ◌≤◌, ◌≡◌, refl, List, ◌∷◌, true, false, length}
+use Rattle.std.specs.Prelude.{ℕ, ◌≤◌, ◌≡◌, refl, List, ◌∷◌, true, false, length, Ok, Err}
 use Rattle.std.proofs.Common.{sym, ◌∙◌}
 use Rattle.truth.specs.Truth.Bools.{clash}
 use Rattle.graph.specs.Graph.{Graph, check, Slices, Acceptable, Content}
 use Rattle.graph.specs.Refusals.Laws.{numbered_one}
 use Rattle.graph.specs.declared.Refusal.{Refusal}
-use Rattle.std.specs.Prelude.{Ok, Err}
 use Rattle.solver.specs.Solve.{Solves, solved}
 use Rattle.verdict.specs.Verdict.{SetsLong, Rules, given}
 use Rattle.verdict.specs.declared.Finding.TheVariants.{AlwaysPasses, AlwaysFails, NeverReached}
@@ -14,16 +13,16 @@ use Rattle.machine.specs.declared.Inspection.{Inspection}
 use Rattle.machine.specs.declared.Inspection.TheVariants as answer
 use Rattle.stacks.specs.Machine.{rights_of, Inspected, stack_of, Reachable, Agrees, full}
 use Rattle.stacks.proofs.Machine.Demand3.{demand3, always_passes, always_fails, never_reached, verdict_at_is}
-use Rattle.machine.specs.Inspect.{SaysSo, passes, fails, FullAnswers, QuickAnswers}
+use Rattle.machine.specs.Inspect.{Answer, SaysSo, passes, fails, FullAnswers, QuickAnswers}
 use Rattle.machine.specs.Inspect.Laws.{refusal_one, refusal_not}
 
 -- What quick returns is what full returns, after no more frames.
-pub data Returns : (quick full : Inspection) → Type 0 where
-  pass : {a b : ℕ} → a ≤ b → Returns (answer.Passes a) (answer.Passes b)
-  fail : {a b : ℕ} → a ≤ b → Returns (answer.Fails a) (answer.Fails b)
-  refuse : {r : Refusal} → Returns (answer.Refused r) (answer.Refused r)
+pub data Returns : (quick full : Answer) → Type 0 where
+  pass : {a b : ℕ} → a ≤ b → Returns (Ok (answer.Passes a)) (Ok (answer.Passes b))
+  fail : {a b : ℕ} → a ≤ b → Returns (Ok (answer.Fails a)) (Ok (answer.Fails b))
+  refuse : {r : Refusal} → Returns (Err r) (Err r)
 
-returns_by : {u v : Inspection} {x z : Inspected} → SaysSo u x → SaysSo v z → Agrees x z → Returns u v
+returns_by : {u v : Inspection} {x z : Inspected} → SaysSo u x → SaysSo v z → Agrees x z → Returns (Ok u) (Ok v)
 returns_by passes passes h = pass h.frames
 returns_by passes fails h = absurd (clash refl h.answer)
 returns_by fails passes h = absurd (clash refl (sym h.answer))
@@ -42,7 +41,7 @@ module _ (g : Graph) {before x : Slices} (stored : Solves g before (Ok tt) x) wh
 
   -- `stack` holds a reachable stack under its height.
   module _ (stack : List ℕ) (height p : ℕ) (h : Reachable g (stack_of stack height)) where
-    pub quick_returns_full : {q f : Inspection} → QuickAnswers g x.denied x.granted stack height p q → FullAnswers g stack height p f → Returns q f
+    pub quick_returns_full : {q f : Answer} → QuickAnswers g x.denied x.granted stack height p q → FullAnswers g stack height p f → Returns q f
     quick_returns_full (QuickAnswers.sets d e) k = absurd (d long)
     quick_returns_full (QuickAnswers.refused {r = a} l d) (FullAnswers.refused {r = b} k) =
         rw (numbered_one a b (refusal_one g d k)) refuse

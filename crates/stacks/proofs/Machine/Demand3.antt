@@ -1,8 +1,8 @@
 -- Demand 3: on every stack that a run from an entry node can reach, of any height, quick inspection by the solver's sets answers as full
 -- inspection and looks at no more frames; so what a verdict says of a check holds on each such stack.
-use Rattle.std.specs.Prelude.{ℕ, ◌<◌, ◌≤◌, ◌≡◌, List, ◌∷◌, Bool, true, false, get_or}
+use Rattle.std.specs.Prelude.{ℕ, ◌<◌, ◌≤◌, ◌≡◌, List, [], ◌∷◌, Bool, true, false, get_or}
 use Rattle.std.proofs.Math.Path.{refl}
-use Rattle.std.proofs.Common.{sym, ◌∙◌, arith}
+use Rattle.std.proofs.Common.{sym, ◌∙◌, ap, arith}
 use Rattle.std.proofs.lemmas.Bool.{not-true, not-false}
 use Rattle.truth.specs.Truth.Bools.{by_split, clash}
 use Rattle.sets.specs.Sets.{has}
@@ -16,7 +16,7 @@ use Rattle.graph.specs.Graph.Code.{denied_code, granted_code, verdict_code}
 use Rattle.stacks.specs.Machine.{rights_of, Inspected, full, quick, Reachable, Agrees}
 use Rattle.stacks.specs.Machine.Inspections.{full_bottom, full_below, quick_bottom, quick_denies, quick_grants, quick_below}
 use Rattle.stacks.proofs.Machine.Inspections.{full_looks}
-use Rattle.stacks.proofs.Machine.Frames.{Framed, bare, frame, passes_call, call_passes, framed}
+use Rattle.stacks.proofs.Machine.Frames.{Arrived, Framed, bare, frame, passes_call, call_passes, framed}
 
 -- the least MAY and the greatest SURE solution have the three facts
 pub solved_sound : (g : Graph) → Acceptable g → (m s : Outs) → LeastMay g m → GreatestSure g m s → Sound g m s
@@ -59,6 +59,14 @@ module _ (g : Graph) (acc : Acceptable g) (m s : Outs) (sound : Sound g m s) (de
       (λ v. clash (is_granted n p l k ∙ (call_privileged g sure s n p v).1 ((call_privileged g may m n p v).0 c)) a)
       (λ v. (in_granted n p k (call_at_most g may m n p v c), v))
 
+  -- what the two sets of the top frame say of an inspection
+  module _ {n : ℕ} {r : List ℕ} (l : n < g.size.n) (a : Arrived g m s n r) (p : ℕ) (k : p < g.size.k) where
+    pub granted_passes : has (get_or gra n 0) p ≡ true → (full (rights_of g) p (n ∷ r)).passes ≡ true
+    granted_passes t = call_passes g m s n r a p k (sym (is_granted n p l k) ∙ t)
+
+    pub denied_fails : has (get_or den n 0) p ≡ true → (full (rights_of g) p (n ∷ r)).passes ≡ false
+    denied_fails t = by_split (full (rights_of g) p (n ∷ r)).passes (λ u. clash (passes_call g m s n r a p k u) (is_denied n p l k t)) (λ u. u)
+
   pub agrees : {x : List ℕ} → Framed g m s x → (p : ℕ) → p < g.size.k → Agrees (quick den gra p x) (full (rights_of g) p x)
   agrees bare p k = agrees_by (quick_bottom den gra p) (full_bottom (rights_of g) p) refl (omega arith)
   agrees (frame {n} {r} l a w f) p k = go (agrees f p k)
@@ -66,51 +74,28 @@ module _ (g : Graph) (acc : Acceptable g) (m s : Outs) (sound : Sound g m s) (de
       go : Agrees (quick den gra p r) (full (rights_of g) p r) → Agrees (quick den gra p (n ∷ r)) (full (rights_of g) p (n ∷ r))
       go h =
           by_split (has (get_or den n 0) p)
-          (λ d. agrees_by (quick_denies den gra p n r d) refl (sym (fails d)) (full_looks (rights_of g) p n r))
+          (λ d. agrees_by (quick_denies den gra p n r d) refl (sym (denied_fails l a p k d)) (full_looks (rights_of g) p n r))
           (λ d.
           by_split (has (get_or gra n 0) p)
-          (λ t. agrees_by (quick_grants den gra p n r d t) refl (sym (call_passes g m s n r a p k (sym (is_granted n p l k) ∙ t))) (full_looks (rights_of g) p n r))
+          (λ t. agrees_by (quick_grants den gra p n r d t) refl (sym (granted_passes l a p k t)) (full_looks (rights_of g) p n r))
           (λ t.
           let u = undecided n p l k d t in
           agrees_by (quick_below den gra p n r d t) (full_below (rights_of g) p n r u.0 u.1) h.answer (omega (arith, h.frames))))
-        where
-          fails : has (get_or den n 0) p ≡ true → (full (rights_of g) p (n ∷ r)).passes ≡ false
-          fails d = by_split (full (rights_of g) p (n ∷ r)).passes (λ t. clash (passes_call g m s n r a p k t) (is_denied n p l k d)) (λ f. f)
-
-  -- what the two sets of the top frame say of an inspection
-  pub granted_passes : {n : ℕ} {r : List ℕ} → Framed g m s (n ∷ r) → (p : ℕ) → p < g.size.k → has (get_or gra n 0) p ≡ true → (full (rights_of g) p (n ∷ r)).passes ≡ true
-  granted_passes (frame {n} {r} l a w f) p k t = call_passes g m s n r a p k (sym (is_granted n p l k) ∙ t)
-
-  pub denied_fails : {n : ℕ} {r : List ℕ} → Framed g m s (n ∷ r) → (p : ℕ) → p < g.size.k → has (get_or den n 0) p ≡ true → (full (rights_of g) p (n ∷ r)).passes ≡ false
-  denied_fails (frame {n} {r} l a w f) p k t = by_split (full (rights_of g) p (n ∷ r)).passes (λ u. clash (passes_call g m s n r a p k u) (is_denied n p l k t)) (λ u. u)
 
 -- ---- the verdict's numbers, turned round
 
-module _ (d a : Bool) where
-  passes_means : verdict_of d a ≡ 1 → a ≡ true
-  passes_means e = go d a e
-    where
-      go : (d a : Bool) → verdict_of d a ≡ 1 → a ≡ true
-      go d true e = refl
-      go false false e = absurd (omega (arith, sym verdict_code.0 ∙ e))
-      go true false e = absurd (omega (arith, sym verdict_code.2 ∙ e))
+-- which of the two sets has the permission, where the verdict is n
+abbrev sides : ℕ → Bool × Bool
+sides n = get_or ((false, false) ∷ (false, true) ∷ (true, false) ∷ (true, true) ∷ []) n (false, false)
 
-  fails_means : verdict_of d a ≡ 2 → d ≡ true
-  fails_means e = go d a e
-    where
-      go : (d a : Bool) → verdict_of d a ≡ 2 → d ≡ true
-      go true a e = refl
-      go false false e = absurd (omega (arith, sym verdict_code.0 ∙ e))
-      go false true e = absurd (omega (arith, sym verdict_code.1 ∙ e))
+sides_of : (d a : Bool) → sides (verdict_of d a) ≡ (d, a)
+sides_of false false = rw verdict_code.0
+sides_of false true = rw verdict_code.1
+sides_of true false = rw verdict_code.2
+sides_of true true = rw verdict_code.3
 
-  reached_means : verdict_of d a ≡ 3 → (d ≡ true) × (a ≡ true)
-  reached_means e = go d a e
-    where
-      go : (d a : Bool) → verdict_of d a ≡ 3 → (d ≡ true) × (a ≡ true)
-      go true true e = (refl, refl)
-      go true false e = absurd (omega (arith, sym verdict_code.2 ∙ e))
-      go false false e = absurd (omega (arith, sym verdict_code.0 ∙ e))
-      go false true e = absurd (omega (arith, sym verdict_code.1 ∙ e))
+verdict_means : (d a : Bool) {n : ℕ} → verdict_of d a ≡ n → (d ≡ (sides n).0) × (a ≡ (sides n).1)
+verdict_means d a v = let e = sym (sides_of d a) ∙ ap sides v in (ap (λ (x : Bool × Bool). x.0) e, ap (λ (x : Bool × Bool). x.1) e)
 
 -- ---- Demand 3, for an accepted graph and the content of its own slices
 
@@ -131,29 +116,28 @@ module _ (g : Graph) (acc : Acceptable g) (x : Slices) (c : Content g x) where
 
   -- on every reachable stack with the check n on top
   module _ {n : ℕ} {r : List ℕ} (h : Reachable g (n ∷ r)) (at : is_check g n ≡ true) where
-    stands : Framed g (held x.may_out) (held x.sure_out) (n ∷ r)
-    stands = framed g acc (held x.may_out) (held x.sure_out) sound h
-
-    low : check g n < g.size.k
-    low = go stands
+    -- the check's permission in the granted set passes, and in the denied set fails
+    sets_tell : (has (get_or x.granted n 0) (check g n) ≡ true → (full (rights_of g) (check g n) (n ∷ r)).passes ≡ true)
+        × (has (get_or x.denied n 0) (check g n) ≡ true → (full (rights_of g) (check g n) (n ∷ r)).passes ≡ false)
+    sets_tell = go (framed g acc (held x.may_out) (held x.sure_out) sound h)
       where
-        go : Framed g (held x.may_out) (held x.sure_out) (n ∷ r) → check g n < g.size.k
-        go (frame l a w f) = check_low g acc n l at
-
-    passes : has (get_or x.granted n 0) (check g n) ≡ true → (full (rights_of g) (check g n) (n ∷ r)).passes ≡ true
-    passes = granted_passes g acc (held x.may_out) (held x.sure_out) sound x.denied x.granted c.denies c.grants stands (check g n) low
-
-    fails : has (get_or x.denied n 0) (check g n) ≡ true → (full (rights_of g) (check g n) (n ∷ r)).passes ≡ false
-    fails = denied_fails g acc (held x.may_out) (held x.sure_out) sound x.denied x.granted c.denies c.grants stands (check g n) low
+        go : Framed g (held x.may_out) (held x.sure_out) (n ∷ r)
+            → (has (get_or x.granted n 0) (check g n) ≡ true → (full (rights_of g) (check g n) (n ∷ r)).passes ≡ true)
+            × (has (get_or x.denied n 0) (check g n) ≡ true → (full (rights_of g) (check g n) (n ∷ r)).passes ≡ false)
+        go (frame l a w f) =
+            let low = check_low g acc n l at in (
+              granted_passes g acc (held x.may_out) (held x.sure_out) sound x.denied x.granted c.denies c.grants l a (check g n) low,
+              denied_fails g acc (held x.may_out) (held x.sure_out) sound x.denied x.granted c.denies c.grants l a (check g n) low,
+            )
 
     pub always_passes : verdict_at n ≡ 1 → (full (rights_of g) (check g n) (n ∷ r)).passes ≡ true
     unfolding verdict_at
-    always_passes v = passes (passes_means _ _ v)
+    always_passes v = sets_tell.0 (verdict_means _ _ v).1
 
     pub always_fails : verdict_at n ≡ 2 → (full (rights_of g) (check g n) (n ∷ r)).passes ≡ false
     unfolding verdict_at
-    always_fails v = fails (fails_means _ _ v)
+    always_fails v = sets_tell.1 (verdict_means _ _ v).0
 
     pub never_reached : verdict_at n ≡ 3 → ⊥
     unfolding verdict_at
-    never_reached v = let b = reached_means _ _ v in clash (passes b.1) (fails b.0)
+    never_reached v = let b = verdict_means _ _ v in clash (sets_tell.0 b.1) (sets_tell.1 b.0)

@@ -6,6 +6,7 @@ ghost use Rattle.std.specs.Prelude.{◌≡◌, ◌<◌, length, get_or};
 ghost use Rattle.truth.specs.Truth.{Says};
 ghost use Rattle.graph.specs.Lent.{lent};
 ghost use Rattle.flow.specs.Walk.{system_of, carried};
+ghost use Rattle.sums.specs.Sums.{SameSums};
 ghost use Rattle.round.specs.Round.{Room, EndsLow, Carriable, CanSpread, SpreadAll, Spreads, ins_to, past_to, Gatherable, Gathers};
 
 use flow::{Arrived, System};
@@ -124,6 +125,7 @@ fn can_gather(graph: &LentGraph, wide: &[u64], out: &[u64]) -> bool
 
 fn gather_all(sums: &mut Sums, system: System, graph: &LentGraph, wide: &[u64], out: &[u64])
     requires { Gatherable (lent graph.now) wide.now out.now }
+    ensures slices { SameSums sums.old sums.new }
     ensures ins { sums.new.ins.now ≡ ins_to (lent graph.now) (system_of system) out.now (length graph.now.edges.tos.now) sums.old.ins.now }
     ensures past { sums.new.past.now ≡ past_to (lent graph.now) (system_of system) wide.now out.now (length graph.now.edges.tos.now) sums.old.past.now }
 {
@@ -139,7 +141,8 @@ fn gather_all(sums: &mut Sums, system: System, graph: &LentGraph, wide: &[u64], 
 // The sums of the nodes, from the out sets of all edges. SURE judges what passes a check by MAY's out sets, `wide`. Whether they were stored:
 // nothing is where a slice has no place for each node or edge, or an edge ends at no node.
 pub fn gather(sums: &mut Sums, system: System, graph: &LentGraph, wide: &[u64], out: &[u64]) -> bool
-    ensures { Gathers (lent graph.now) (system_of system) wide.now out.now sums.old.ins.now sums.old.past.now result sums.new.ins.now sums.new.past.now }
+    ensures slices { SameSums sums.old sums.new }
+    ensures gathered { Gathers (lent graph.now) (system_of system) wide.now out.now sums.old.ins.now sums.old.past.now result sums.new.ins.now sums.new.past.now }
 {
     let n = graph.nodes.kinds.len();
     let begun = can_gather(graph, wide, out) && sums.begin(system, graph.size.k, n, &graph.nodes);

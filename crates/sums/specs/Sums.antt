@@ -2,7 +2,12 @@
 pub mod Laws
 use Rattle.std.specs.Prelude.{ℕ, ◌≤◌, ◌<◌, ◌≡◌, List, Bool, true, false, cond, ◌&&◌, ◌||◌, ltb, length, get_or}
 use Rattle.graph.specs.Graph.{System, PerNode}
+use Rattle.sums.specs.declared.Sums.{Sums}
 use Rattle.flow.specs.Walk.{into, changes, Begun}
+
+-- both are lent the same slices
+abbrev pub SameSums : Sums → Sums → Type 0
+SameSums x z = (z.ins.ghost_name ≡ x.ins.ghost_name) × (z.past.ghost_name ≡ x.past.ghost_name)
 
 -- whether a set v that arrives changes the sum of node b. Sums that end before b have none, and `into` leaves them as they are.
 abbrev pub alters : System → List ℕ → (b v : ℕ) → Bool

@@ -5,7 +5,7 @@ ghost use Rattle.std.specs.Prelude.{◌≡◌, length};
 ghost use Rattle.truth.specs.Truth.{Says};
 ghost use Rattle.graph.specs.Lent.{nodes_lent};
 ghost use Rattle.flow.specs.Walk.{system_of};
-ghost use Rattle.sums.specs.Sums.{Merges, Delivers, Room, Begins, BegunAll};
+ghost use Rattle.sums.specs.Sums.{Merges, Delivers, Room, Begins, BegunAll, SameSums};
 
 use flow::{Entry, System};
 use graph::LentNodes;
@@ -36,7 +36,8 @@ pub struct Sums<'a> {
 impl Sums<'_> {
     // A set arrives at node b, and counts there or not. Whether a sum of the node changed: none does where the slices end before it.
     pub fn deliver(&mut self, system: System, b: usize, v: u64, counted: bool) -> bool
-        ensures { Delivers (system_of system) self.old.ins.now self.old.past.now b v counted self.new.ins.now self.new.past.now result }
+        ensures delivered { Delivers (system_of system) self.old.ins.now self.old.past.now b v counted self.new.ins.now self.new.past.now result }
+        ensures slices { SameSums self.old self.new }
     {
         let more = merge_at(self.ins, system, b, v);
         if !counted {
@@ -58,7 +59,8 @@ impl Sums<'_> {
 
     fn begin_all(&mut self, system: System, k: usize, n: usize, nodes: &LentNodes)
         requires { Room n (nodes_lent nodes.now) self.old.ins.now self.old.past.now }
-        ensures { BegunAll (system_of system) k n (nodes_lent nodes.now) self.old.ins.now self.old.past.now self.new.ins.now self.new.past.now }
+        ensures begun { BegunAll (system_of system) k n (nodes_lent nodes.now) self.old.ins.now self.old.past.now self.new.ins.now self.new.past.now }
+        ensures slices { SameSums self.old self.new }
     {
         for i in 0..n {
             let entry = Entry {
@@ -74,7 +76,8 @@ impl Sums<'_> {
     // The sums of the nodes below n before anything but the entry marks arrives. Whether they were stored: nothing is where a slice has no
     // place for each of the nodes.
     pub fn begin(&mut self, system: System, k: usize, n: usize, nodes: &LentNodes) -> bool
-        ensures { Begins (system_of system) k n (nodes_lent nodes.now) self.old.ins.now self.old.past.now result self.new.ins.now self.new.past.now }
+        ensures begun { Begins (system_of system) k n (nodes_lent nodes.now) self.old.ins.now self.old.past.now result self.new.ins.now self.new.past.now }
+        ensures slices { SameSums self.old self.new }
     {
         let room = self.have_room(n, nodes);
         if room {

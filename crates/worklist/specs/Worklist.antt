@@ -5,6 +5,8 @@ pub mod Linking
 pub mod Stack
 use Rattle.std.specs.Prelude.{ℕ, zero, suc, ◌+◌, ◌-◌, ◌≤◌, ◌<◌, ◌≡◌, List, [], ◌∷◌, Bool, true, false, cond, ◌&&◌, eqb, leb, ltb, length, get_or, set, Option, Some, None}
 use Rattle.truth.specs.Truth.{All}
+use Rattle.worklist.specs.declared.EdgeLists.{EdgeLists}
+use Rattle.worklist.specs.declared.Pending.{Pending}
 
 -- ---- lists of edges
 
@@ -43,6 +45,10 @@ pub data Links (froms head prev : List ℕ) : Bool → Lists → Type 0 where
   linked : Linkable froms (length head) (length prev) → Links froms head prev true (link_to froms (length froms) (lists head prev))
   kept : (Linkable froms (length head) (length prev) → ⊥) → Links froms head prev false (lists head prev)
 
+-- both are lent the same slices
+abbrev pub SameLists : EdgeLists → EdgeLists → Type 0
+SameLists x z = (z.head.ghost_name ≡ x.head.ghost_name) × (z.prev.ghost_name ≡ x.prev.ghost_name)
+
 -- ---- the stack: marks d, places st, of which those below top are in use
 
 -- node b has a mark, and there is a place that holds its number
@@ -62,6 +68,9 @@ pub record Put (d st : List ℕ) (top b : ℕ) (new : Bool) (d' st' : List ℕ) 
 pub data Takes (d st : List ℕ) (top : ℕ) : Option ℕ → (d' st' : List ℕ) (top' : ℕ) → Type 0 where
   taken : {t : ℕ} → top ≡ t + 1 → t < length st → Takes d st top (Some (get_or st t 0)) (set d (get_or st t 0) 0) st t
   untaken : ((t : ℕ) → top ≡ t + 1 → t < length st → ⊥) → Takes d st top None d st top
+
+abbrev pub SamePending : Pending → Pending → Type 0
+SamePending x z = (z.marks.ghost_name ≡ x.marks.ghost_name) × (z.stack.ghost_name ≡ x.stack.ghost_name)
 
 -- the nodes below n, the first on top; i of them are written
 unfoldable pub count_down : (n : ℕ) (st : List ℕ) (i : ℕ) → List ℕ

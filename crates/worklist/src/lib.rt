@@ -3,7 +3,7 @@
 
 ghost use Rattle.std.specs.Prelude.{◌≡◌, ◌≤◌, ◌<◌, length, get_or};
 ghost use Rattle.truth.specs.Truth.{Says, All};
-ghost use Rattle.worklist.specs.Worklist.{Linkable, lists, link_to, Links, holds, fresh, Put, Takes, count_down, Fills};
+ghost use Rattle.worklist.specs.Worklist.{Linkable, lists, link_to, Links, SameLists, holds, fresh, Put, Takes, SamePending, count_down, Fills};
 
 // The largest number that a place of a list or of the stack holds.
 pub const LARGEST: usize = 65535;
@@ -45,7 +45,8 @@ impl EdgeLists<'_> {
 
     fn link_all(&mut self, froms: &[u16])
         requires { Linkable froms.now (length self.old.head.now) (length self.old.prev.now) }
-        ensures { lists self.new.head.now self.new.prev.now ≡ link_to froms.now (length froms.now) (lists self.old.head.now self.old.prev.now) }
+        ensures linked { lists self.new.head.now self.new.prev.now ≡ link_to froms.now (length froms.now) (lists self.old.head.now self.old.prev.now) }
+        ensures slices { SameLists self.old self.new }
     {
         for (e, &from) in froms.iter().enumerate() {
             let i = from as usize;
@@ -56,7 +57,8 @@ impl EdgeLists<'_> {
 
     // The edges that leave each node. Whether they were stored: nothing is where the slices have no room for them.
     pub fn link(&mut self, froms: &[u16]) -> bool
-        ensures { Links froms.now self.old.head.now self.old.prev.now result (lists self.new.head.now self.new.prev.now) }
+        ensures linked { Links froms.now self.old.head.now self.old.prev.now result (lists self.new.head.now self.new.prev.now) }
+        ensures slices { SameLists self.old self.new }
     {
         let can = self.can_link(froms);
         if can {
@@ -84,7 +86,8 @@ impl Pending<'_> {
 
     // Node b goes on the stack where it is wanted there, is not there, and has a mark and a place.
     pub fn put(&mut self, b: usize, wanted: bool)
-        ensures { Put self.old.marks.now self.old.stack.now self.old.top b (fresh self.old.marks.now self.old.stack.now self.old.top b wanted) self.new.marks.now self.new.stack.now self.new.top }
+        ensures put { Put self.old.marks.now self.old.stack.now self.old.top b (fresh self.old.marks.now self.old.stack.now self.old.top b wanted) self.new.marks.now self.new.stack.now self.new.top }
+        ensures slices { SamePending self.old self.new }
     {
         if wanted && self.holds(b) && self.marks[b] == 0 {
             self.marks[b] = MARKED;
@@ -95,7 +98,8 @@ impl Pending<'_> {
 
     // Takes the node on top, and its mark: none where the stack is empty, or ends below its top.
     pub fn take(&mut self) -> Option<usize>
-        ensures { Takes self.old.marks.now self.old.stack.now self.old.top result self.new.marks.now self.new.stack.now self.new.top }
+        ensures taken { Takes self.old.marks.now self.old.stack.now self.old.top result self.new.marks.now self.new.stack.now self.new.top }
+        ensures slices { SamePending self.old self.new }
     {
         let top = self.top.checked_sub(1)?;
         if self.stack.len() <= top {

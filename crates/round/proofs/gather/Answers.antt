@@ -14,18 +14,18 @@ gather_all-requires c =
       | else-can_gather w ↦ clash c.if-begun.true (w.begun-is ∙ w.if-can_gather.false)
     ]
 
-pub returns-then-begun : goal.returns-then-begun
-returns-then-begun c =
+pub returns-then-begun-clause-gathered : goal.returns-then-begun-clause-gathered
+returns-then-begun-clause-gathered c =
     elim c.if-can_gather.branch [
       | then-can_gather w ↦ rw c.if-begun.true
-        (gathered_by _ _ _ _ _ _ _ _ (says_true c.can_gather.ensures w.if-can_gather.true) (sym w.begun-is ∙ c.if-begun.true) w.begin-begun.ensures
+        (gathered_by _ _ _ _ _ _ _ _ (says_true c.can_gather.ensures w.if-can_gather.true) (sym w.begun-is ∙ c.if-begun.true) w.begin-begun.ensures.begun
         (rw w.sums-is at c.gather_all.ensures.ins) (rw w.sums-is at c.gather_all.ensures.past))
       | else-can_gather w ↦ clash c.if-begun.true (w.begun-is ∙ w.if-can_gather.false)
     ]
 
-pub returns-else-begun : goal.returns-else-begun
-returns-else-begun c =
+pub returns-else-begun-clause-gathered : goal.returns-else-begun-clause-gathered
+returns-else-begun-clause-gathered c =
     elim c.if-can_gather.branch [
-      | then-can_gather w ↦ rw (c.if-begun.false, w.sums-is) (unbegun_by _ _ _ _ _ _ (sym w.begun-is ∙ c.if-begun.false) w.begin-begun.ensures)
+      | then-can_gather w ↦ rw (c.if-begun.false, w.sums-is) (unbegun_by _ _ _ _ _ _ (sym w.begun-is ∙ c.if-begun.false) w.begin-begun.ensures.begun)
       | else-can_gather w ↦ rw (c.if-begun.false, w.sums-is) (unsent (says_false c.can_gather.ensures w.if-can_gather.false))
     ]

@@ -6,8 +6,8 @@ use Rattle.sums.proofs.Sums.begin.Goals as goal
 pub begin_all-requires : goal.begin_all-requires
 begin_all-requires c = says_true c.have_room-room.ensures c.if-room.true
 
-pub returns-then-room : goal.returns-then-room
-returns-then-room c = rw c.if-room.true (begun (says_true c.have_room-room.ensures c.if-room.true) c.begin_all.ensures)
+pub returns-then-room-clause-begun : goal.returns-then-room-clause-begun
+returns-then-room-clause-begun c = rw c.if-room.true (begun (says_true c.have_room-room.ensures c.if-room.true) c.begin_all.ensures.begun)
 
-pub returns-else-room : goal.returns-else-room
-returns-else-room c = rw c.if-room.false (kept (says_false c.have_room-room.ensures c.if-room.false))
+pub returns-else-room-clause-begun : goal.returns-else-room-clause-begun
+returns-else-room-clause-begun c = rw c.if-room.false (kept (says_false c.have_room-room.ensures c.if-room.false))

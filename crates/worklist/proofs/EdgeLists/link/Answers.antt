@@ -6,8 +6,8 @@ use Rattle.worklist.proofs.EdgeLists.link.Goals as goal
 pub link_all-requires : goal.link_all-requires
 link_all-requires c = says_true c.can_link-can.ensures c.if-can.true
 
-pub returns-then-can : goal.returns-then-can
-returns-then-can c = rw c.if-can.true (links_by _ _ _ _ (says_true c.can_link-can.ensures c.if-can.true) c.link_all.ensures)
+pub returns-then-can-clause-linked : goal.returns-then-can-clause-linked
+returns-then-can-clause-linked c = rw c.if-can.true (links_by _ _ _ _ (says_true c.can_link-can.ensures c.if-can.true) c.link_all.ensures.linked)
 
-pub returns-else-can : goal.returns-else-can
-returns-else-can c = rw c.if-can.false (kept (says_false c.can_link-can.ensures c.if-can.false))
+pub returns-else-can-clause-linked : goal.returns-else-can-clause-linked
+returns-else-can-clause-linked c = rw c.if-can.false (kept (says_false c.can_link-can.ensures c.if-can.false))

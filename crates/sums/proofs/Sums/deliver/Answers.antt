@@ -1,9 +1,0 @@
-use Rattle.sums.specs.Sums.Laws.{uncounted, counted_too}
-use Rattle.sums.proofs.Sums.deliver.Goals as goal
-
-pub returns-then-not-counted : goal.returns-then-not-counted
-returns-then-not-counted c = uncounted _ _ _ _ _ _ _ _ c.merge_at-more.ensures c.if-not-counted.true
-
-pub returns : goal.returns
-returns c =
-    counted_too _ _ _ _ _ _ _ _ c.merge_at-more.ensures c.if-not-counted.false _ _ c.merge_at-passing.ensures

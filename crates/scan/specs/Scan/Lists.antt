@@ -1,12 +1,11 @@
 -- How a list goes on from one word to the next, and its set as 64 bits.
-use Rattle.std.specs.Prelude.{ℕ, ◌+◌, ◌*◌, ◌^◌, ◌%◌, ◌≤◌, ◌<◌, ◌≡◌, refl, cond, List, [], ◌∷◌, length, ltb, Option, Some, None}
+use Rattle.std.specs.Prelude.{ℕ, ◌+◌, ◌^◌, ◌≤◌, ◌<◌, ◌≡◌, refl, cond, List, [], ◌∷◌, length, ltb, Option, Some, None}
 use Rattle.std.proofs.Common.{ap, sym, ◌∙◌, le_trans, arith, pow_mono}
 use Rattle.std.specs.Int.Bits.{bit_or, or_add_and}
 use Rattle.std.proofs.lemmas.Nat.{and_le_l, and_le_r, or_lt}
 use Rattle.std.proofs.Math.Pow.{pow-lt}
 use borrow.Author.Tests.{lt-ltb, le-ltb, ltb-true, ltb-false}
 use Rattle.truth.specs.Truth.Bools.{by_split}
-use Rattle.truth.specs.Truth.Kit.{shl_one}
 use denote.Ref.{Bor}
 use Rattle.std.specs.Iterator.{AlwaysYields}
 use Rattle.scan.specs.declared.Listed.{Listed}
@@ -42,14 +41,6 @@ pub list_some : (most : ℕ) (l : List ℕ) → (length l ≡ 0 → ⊥) → mem
 unfolding members_of
 list_some most [] h = absurd (h refl)
 list_some most (b ∷ l) h = refl
-
--- what a set and a number give, by the kind of set
-module _ {set : Listed} {bits v : ℕ} where
-  pub with_low : set ≡ Held bits → v < 64 → with_member set v ≡ Held (bit_or bits ((1 * 2 ^ v) % 18446744073709551616))
-  with_low e h = rw (e, shl_one v h) (simp (lt-ltb _ _ h))
-
-  pub with_high : set ≡ Held bits → 64 ≤ v → with_member set v ≡ Beyond
-  with_high e h = rw e (simp (le-ltb _ _ h))
 
 -- A list of which some words are read: the set of their numbers, and that the words that are left, as steps yield them, lead to the list's own.
 module _ {S : Type 0} (steps : S → Option (Bor (List ℕ)) → S → Type 0) (most : ℕ) (s : List ℕ) where

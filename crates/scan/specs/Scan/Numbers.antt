@@ -1,5 +1,5 @@
 -- How a number goes on from one digit to the next, and how large it can be.
-use Rattle.std.specs.Prelude.{ℕ, zero, suc, ◌+◌, ◌-◌, ◌*◌, ◌^◌, min, ◌≤◌, ◌<◌, ◌≡◌, List, [], ◌∷◌, length, drop, true, false, ltb, eqb, Some, None}
+use Rattle.std.specs.Prelude.{ℕ, zero, suc, ◌+◌, ◌-◌, ◌*◌, ◌^◌, ◌≤◌, ◌<◌, ◌≡◌, List, [], ◌∷◌, length, drop, true, false, ltb, eqb, Some, None}
 use Rattle.std.proofs.Common.{add-one, pow-suc, add-zero, zero-add, drop_of_length-le, lit<}
 use Rattle.std.proofs.Math.Nat.{pow-le-pow_right}
 use Rattle.std.specs.Char.{is_ascii_digit}
@@ -7,7 +7,7 @@ use Rattle.std.proofs.lemmas.Bool.{and_parts}
 use native.Mathlib.Omega.{arith}
 use Rattle.std.proofs.Math.ListN.{get_or}
 use Rattle.std.proofs.Math.Seq.{drop-cons}
-use borrow.Author.Tests.{lt-ltb, le-ltb, eq-eqb, ne_eqb, leb-true, ltb-false}
+use borrow.Author.Tests.{le-ltb, eq-eqb, ne_eqb, leb-true, ltb-false}
 use Rattle.truth.specs.Truth.Bools.{by_split}
 use Rattle.scan.specs.Scan.{digits_from, number_of}
 
@@ -34,13 +34,6 @@ pub ten_step : (i : ℕ) → 10 ^ (i + 1) ≡ 10 ^ i * 10
 ten_step i = rw (add-one, pow-suc)
 
 module _ (most : ℕ) (l : List ℕ) where
-  pub number_long : min most 18 < length l → number_of most l ≡ None
-  unfolding number_of
-  number_long h =
-      by_split (eqb (length l) 0) (λ a. simp a)
-      (λ a. by_split (ltb most (length l)) (λ b. simp (a, b))
-      (λ b. simp (a, b, lt-ltb 18 (length l) (omega (arith, h, ltb-false most (length l) b)))))
-
   pub number_none : length l ≡ 0 → number_of most l ≡ None
   unfolding number_of
   number_none h = simp h

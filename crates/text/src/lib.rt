@@ -108,7 +108,13 @@ fn parse(into: &mut Slots, s: &[u8], from: usize, row: usize) -> Result<Size, Re
     requires { row < 4294967296 }
     ensures { Parses (slots into.old) s.now from row result (slots into.new) }
 {
-    let Some(At { value: counts, next }) = records::read_header(s, from) else {
+    let Some(
+        At {
+            value: counts,
+            next,
+        },
+    ) = records::read_header(s, from)
+    else {
         return Err(Refusal::Row(row));
     };
     let node = row + 1;
@@ -120,12 +126,7 @@ fn parse(into: &mut Slots, s: &[u8], from: usize, row: usize) -> Result<Size, Re
 }
 
 // Reads a text into slices that have room.
-fn read_sized(
-    text: &[u8],
-    from: usize,
-    row: usize,
-    into: &mut GraphPlaces,
-) -> Result<Size, Refusal>
+fn read_sized(text: &[u8], from: usize, row: usize, into: &mut GraphPlaces) -> Result<Size, Refusal>
     requires { (row < 4294967296) × Room (places into.old) }
     ensures tells { Tells (on_meaning (text_at text.now from row)) (places into.old) result (places into.new) }
     ensures same_places { SamePlaces into.old into.new }

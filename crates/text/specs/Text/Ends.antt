@@ -13,9 +13,9 @@ use Rattle.records.specs.Records.{header_at, node_at, kept}
 use Rattle.records.specs.Records.Rows.{header_ranges}
 use Rattle.extent.specs.Extent.{Ran, Parsed, end_of}
 use Rattle.extent.specs.declared.Slots.{Slots}
-use Rattle.extent.specs.Room.{node_slots, edge_slots}
-use Rattle.handover.specs.Handover.{NodesWritten, EdgesWritten}
-use Rattle.text.specs.Text.{onto, rows_at, edge_row, says, wrong, text_at, node_columns, edge_columns, Stores}
+use Rattle.extent.specs.Room.{node_slots}
+use Rattle.handover.specs.Handover.{NodesWritten}
+use Rattle.text.specs.Text.{onto, rows_at, edge_row, says, wrong, text_at, node_columns, Stores}
 use Rattle.text.specs.Text.Kept.{kept_all}
 use Rattle.text.specs.Text.Parts.{rows_from, end_from, kept_row, node_put, edge_put, RowsRead, slots, Parses, counted, faulty}
 use Rattle.text.specs.Text.Puts.{nodes_put, edges_put}

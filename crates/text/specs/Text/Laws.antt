@@ -13,7 +13,6 @@ use Rattle.graph.specs.Judge.{Judges, judge}
 use Rattle.graph.specs.Judge.Laws.{judge_judges, judges_judge, accepted_is}
 use Rattle.graph.specs.declared.Size.{Size}
 use Rattle.graph.specs.declared.Refusal.{Refusal}
-use Rattle.graph.specs.declared.Refusal.TheVariants as why
 use Rattle.graph.specs.Refusals.{Judged}
 use Rattle.handover.specs.Handover.{Lent, lists_lent, Room, held_graph, NodesWritten, EdgesWritten, Copied, HandsOver, cramped, refused, accepted}
 use Rattle.handover.specs.Handover.Laws.{room?, held_judges, wrote, nodes_back, edges_back, written_one, edges_written_one}

@@ -1,5 +1,5 @@
 -- What the parts of the reader say.
-use Rattle.std.specs.Prelude.{ℕ, zero, suc, ◌+◌, ◌≤◌, ◌≡◌, List, [], ◌∷◌, set, length, Option, Ok, Err}
+use Rattle.std.specs.Prelude.{ℕ, zero, suc, ◌+◌, ◌≡◌, List, [], ◌∷◌, set, length, Option, Ok, Err}
 use Rattle.scan.specs.declared.At.{At}
 use Rattle.graph.specs.Graph.{Ranges}
 use Rattle.graph.specs.declared.Node.{Node}
@@ -7,7 +7,7 @@ use Rattle.graph.specs.declared.Edge.{Edge}
 use Rattle.graph.specs.declared.Size.{Size}
 use Rattle.graph.specs.declared.Refusal.TheVariants as why
 use Rattle.records.specs.Records.{read_as, node_at, kept}
-use Rattle.extent.specs.Extent.{Ran, Parsed, end_of}
+use Rattle.extent.specs.Extent.{Ran, Parsed}
 use Rattle.extent.specs.Room.{node_slots, edge_slots}
 use Rattle.extent.specs.declared.NodeSlots.{NodeSlots}
 use Rattle.extent.specs.declared.EdgeSlots.{EdgeSlots}

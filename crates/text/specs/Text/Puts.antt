@@ -1,13 +1,12 @@
 -- What reading the rows i to n from position p on answers and puts, by the row at p; and what each slice holds when rows were put one after another.
 use Rattle.std.specs.Prelude.{ℕ, suc, ◌+◌, ◌-◌, ◌≤◌, ◌<◌, ◌≡◌, refl, List, [], ◌∷◌, map, set, Option, Some, None, Ok, Err}
-use Rattle.std.proofs.Common.{sym, ap, ◌∙◌, add-one, sub-eq-zero_of_le, arith}
+use Rattle.std.proofs.Common.{◌∙◌, add-one, sub-eq-zero_of_le, arith}
 use Rattle.std.proofs.Math.Nat.{sub-zero}
 use Rattle.std.proofs.lemmas.List.Edits.{sets}
 use Rattle.scan.specs.declared.At.{At}
 use Rattle.graph.specs.declared.Node.{Node}
 use Rattle.graph.specs.declared.Edge.{Edge}
 use Rattle.graph.specs.declared.Refusal.TheVariants as why
-use Rattle.extent.specs.Extent.{Ran}
 use Rattle.extent.specs.Room.{node_slots, edge_slots}
 use Rattle.extent.specs.declared.NodeSlots.{NodeSlots}
 use Rattle.extent.specs.declared.EdgeSlots.{EdgeSlots}

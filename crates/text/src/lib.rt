@@ -1,7 +1,7 @@
 // Reads the graph of a text into the places that a caller lends.
 #![tactic(auto)]
 
-ghost use Rattle.std.specs.Prelude.{ℕ, List, Option, ◌≡◌, ◌<◌, ◌≤◌};
+ghost use Rattle.std.specs.Prelude.{ℕ, List, Option, ◌≡◌, ◌+◌, ◌<◌, ◌≤◌};
 ghost use Rattle.graph.specs.declared.Node.{Node};
 ghost use Rattle.graph.specs.declared.Edge.{Edge};
 ghost use Rattle.scan.specs.declared.At.{At};
@@ -87,8 +87,7 @@ fn read_rows<R: Rows>(
     first: usize,
     count: usize,
 ) -> Result<usize, Refusal>
-    requires numbered { first ≤ 4294968320 }
-    requires few { count ≤ 4096 }
+    requires numbered { first + count ≤ usize.MAX }
     requires room { count ≤ R.most }
     ensures { RowsRead (R.row_at s.now) R.with_row from first count rows.old result rows.new }
 {
@@ -108,17 +107,12 @@ fn parse(into: &mut Slots, s: &[u8], from: usize, row: usize) -> Result<Size, Re
     requires { row < 4294967296 }
     ensures { Parses (slots into.old) s.now from row result (slots into.new) }
 {
-    let Some(
-        At {
-            value: counts,
-            next,
-        },
-    ) = records::read_header(s, from)
-    else {
+    let Some(header) = records::read_header(s, from) else {
         return Err(Refusal::Row(row));
     };
+    let counts = header.value;
     let node = row + 1;
-    let past = read_rows(&mut into.nodes, s, next, node, counts.n)?;
+    let past = read_rows(&mut into.nodes, s, header.next, node, counts.n)?;
     let edge = node + counts.n;
     let ran = read_rows(&mut into.edges, s, past, edge, counts.m);
     let extra = edge + counts.m;

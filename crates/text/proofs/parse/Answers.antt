@@ -11,10 +11,10 @@ use Rattle.text.proofs.parse.Goals as goal
 
 -- what is known once the first row was read, and is right
 module _ (c : In-Some) where
-  header : header_at c.args.s.now c.args.from ≡ Some c.in-Some.field-0
+  header : header_at c.args.s.now c.args.from ≡ Some c.in-Some.header
   header = sym c.read_header.ensures ∙ c.in-Some.is
 
-  ranges : Ranges c.in-Some.field-0.value
+  ranges : Ranges c.in-Some.header.value
   ranges = header_ranges _ _ header
 
 pub returns-in_default : goal.returns-in_default
@@ -23,7 +23,7 @@ returns-in_default c = parse_none _ _ _ (sym c.read_header.ensures ∙ c.in_defa
 pub read_rows-requires : goal.read_rows-requires
 read_rows-requires c =
     let r = ranges (goal.at.read_rows-requires c).In-Some in
-    record { numbered = omega (arith, c.requires); few = omega (arith, r.n_high); room = r.n_high }
+    record { numbered = omega (arith, c.requires, r.n_high); room = r.n_high }
 
 pub overflow_add-edge : goal.overflow_add-edge
 overflow_add-edge c = let r = ranges (goal.at.overflow_add-edge c).In-Some in omega (arith, c.requires, r.n_high)
@@ -31,7 +31,7 @@ overflow_add-edge c = let r = ranges (goal.at.overflow_add-edge c).In-Some in om
 pub read_rows-ran-requires : goal.read_rows-ran-requires
 read_rows-ran-requires c =
     let r = ranges (goal.at.read_rows-ran-requires c).In-Some in
-    record { numbered = omega (arith, c.requires, r.n_high); few = r.m_high; room = r.m_high }
+    record { numbered = omega (arith, c.requires, r.n_high, r.m_high); room = r.m_high }
 
 pub overflow_add-extra : goal.overflow_add-extra
 overflow_add-extra c = let r = ranges (goal.at.overflow_add-extra c).In-Some in omega (arith, c.requires, r.n_high, r.m_high)

@@ -1,6 +1,6 @@
 -- The text is parsed into arrays of this function's own, so that the lent places are as they were until the graph is handed over.
 use Rattle.std.proofs.lemmas.Result.{err_from_is_err_and}
-use Rattle.text.specs.Text.Laws.{clear_room, slots_handed, wrong_tells, taken, refused_after}
+use Rattle.text.specs.Text.Laws.{clear_room, slots_handed, wrong_tells, taken_tells, refused_tells}
 use Rattle.text.proofs.read_sized.Goals as goal
 
 pub parse-requires : goal.parse-requires
@@ -14,7 +14,7 @@ returns-in_err-size-clause-tells c =
 pub returns-in_err-hand_over-clause-tells : goal.returns-in_err-hand_over-clause-tells
 returns-in_err-hand_over-clause-tells c =
     let p = err_from_is_err_and c.from_residual-in_err-hand_over.result c.from_residual-in_err-hand_over.ensures.1 in
-    rw (p.1, p.2) (refused_after _ _ _ c.in_ok-size.ensures (clear_room c.new-slots.ensures) c.requires.1 (slots_handed c.lent.result c.parse.new.into c.lent.ensures c.in_err-hand_over.ensures.handed))
+    rw (p.1, p.2) (refused_tells _ _ _ c.in_ok-size.ensures (clear_room c.new-slots.ensures) c.requires.1 (slots_handed c.lent.result c.parse.new.into c.lent.ensures c.in_err-hand_over.ensures.handed))
 
 pub returns-clause-tells : goal.returns-clause-tells
-returns-clause-tells c = taken _ _ _ c.in_ok-size.ensures (clear_room c.new-slots.ensures) c.requires.1 (slots_handed c.lent.result c.parse.new.into c.lent.ensures c.in_ok-hand_over.ensures.handed)
+returns-clause-tells c = taken_tells _ _ _ c.in_ok-size.ensures (clear_room c.new-slots.ensures) c.requires.1 (slots_handed c.lent.result c.parse.new.into c.lent.ensures c.in_ok-hand_over.ensures.handed)

@@ -88,14 +88,14 @@ module _ {c : Size} {zeros held : Lent} {s : List ℕ} {from row : ℕ} (d : Sai
         (record { nodes = subst (λ v. NodesWritten before.nodes v after.nodes) nodes_are p.nodes; edges = subst (λ v. EdgesWritten before.edges v after.edges) edges_are p.edges })
 
   -- the slices had room, so it is the graph that is judged
-  taken_tells : {before after : Lent} → Room held → Room before → HandsOver c held before (Ok tt) after → Tells (on_meaning (text_at s from row)) before (Ok c) after
-  taken_tells {before} {after} p q (accepted _ h w) =
+  said_taken : {before after : Lent} → Room held → Room before → HandsOver c held before (Ok tt) after → Tells (on_meaning (text_at s from row)) before (Ok c) after
+  said_taken {before} {after} p q (accepted _ h w) =
       subst (λ (x : Size). Tells (on_meaning (text_at s from row)) before (Ok x) after) (λ i. size_of c.k (sym d.n_is i) (sym d.m_is i))
       (stored (means_so (held_judges p h)) (copied_so (held_judges p h) w))
 
-  refused_tells : {before after : Lent} {r : Refusal} → Room held → Room before → HandsOver c held before (Err r) after → Tells (on_meaning (text_at s from row)) before (Err r) after
-  refused_tells p q (cramped e) = absurd (e q)
-  refused_tells p q (refused _ h) = refuses (means_so (held_judges p h))
+  said_refused : {before after : Lent} {r : Refusal} → Room held → Room before → HandsOver c held before (Err r) after → Tells (on_meaning (text_at s from row)) before (Err r) after
+  said_refused p q (cramped e) = absurd (e q)
+  said_refused p q (refused _ h) = refuses (means_so (held_judges p h))
 
 -- arrays made by repetition have room, and are lent as they are
 pub clear_room : {x : Slots} → Clear x → Room (slots x)
@@ -110,11 +110,11 @@ module _ {before zeros : Lent} (s : List ℕ) (from row : ℕ) {held : Lent} whe
   wrong_tells (faulty e) = refuses (ap on_meaning e)
 
   module _ {c : Size} {after : Lent} (h : Parses zeros s from row (Ok c) held) (z : Room zeros) (k : Room before) where
-    pub taken : HandsOver c held before (Ok tt) after → Tells (on_meaning (text_at s from row)) before (Ok c) after
-    taken o = let d = counted_is h in taken_tells d z (stores_room d.so z) k o
+    pub taken_tells : HandsOver c held before (Ok tt) after → Tells (on_meaning (text_at s from row)) before (Ok c) after
+    taken_tells o = let d = counted_is h in said_taken d z (stores_room d.so z) k o
 
-    pub refused_after : {r : Refusal} → HandsOver c held before (Err r) after → Tells (on_meaning (text_at s from row)) before (Err r) after
-    refused_after o = let d = counted_is h in refused_tells d z (stores_room d.so z) k o
+    pub refused_tells : {r : Refusal} → HandsOver c held before (Err r) after → Tells (on_meaning (text_at s from row)) before (Err r) after
+    refused_tells o = let d = counted_is h in said_refused d z (stores_room d.so z) k o
 
 -- ---- the slices' lengths and the text's
 

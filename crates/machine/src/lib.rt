@@ -1,5 +1,5 @@
-// The inspections of a stack, and its steps. A stack is lent as a slice and a height, bottom first, and not as a slice of its frames alone:
-// a height above the slice's length is a question that is refused (6), and a step may write above the height.
+// The inspections of a stack, and its steps.
+// A stack's slice and its height stay two parameters: a height above the slice is a question, and is refused with 6.
 #![tactic(auto)]
 
 ghost use Rattle.std.specs.Prelude.{◌≡◌, ◌<◌, ◌≤◌, ℕ, List, length};

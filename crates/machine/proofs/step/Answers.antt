@@ -1,12 +1,17 @@
--- Past the judgement the call may be asked (`may_be_asked`), and past the search for a place a rule leads there (`found`).
+-- Past the judgement the step may be asked for (`may_be_asked`), and past the search for a place a rule leads there (`leads`).
 use Rattle.std.specs.Prelude.{◌≡◌, Err}
 use Rattle.std.proofs.Common.{arith, rules}
 use Rattle.truth.specs.Truth.Tests.{says_true, says_false}
 use Rattle.graph.specs.declared.Refusal.TheVariants.{NoRule}
+use Rattle.graph.specs.Lent.{lent}
 use Rattle.machine.specs.Inspect.Laws.{may_be_asked, refused_asking}
-use Rattle.machine.specs.Steps.{Steps, StepRefuses}
+use Rattle.machine.specs.Steps.{RuleOf, Steps, StepRefuses}
 use Rattle.machine.specs.Steps.Parts.{found, none_found}
+use Rattle.machine.proofs.step.Goals.{In_ok-place}
 use Rattle.machine.proofs.step.Goals as goal
+
+leads : (c : In_ok-place) → RuleOf (lent c.args.graph.now) c.args.stack.now c.args.height c.args.next c.in_ok-place.place
+leads c = found _ (rw c.in_ok-place.ensures.ok_part at c.find_place.ensures)
 
 pub returns-in_err-judge_asked : goal.returns-in_err-judge_asked
 returns-in_err-judge_asked c =
@@ -31,7 +36,7 @@ returns-then-top_denied c =
     Steps.refused
     (StepRefuses.check_denied
     (may_be_asked c.in_ok-judge_asked.ensures)
-    (found _ (rw c.in_ok-place.ensures.ok_part at c.find_place.ensures))
+    (leads (goal.at.returns-then-top_denied c).In_ok-place)
     (says_true c.top_denied.ensures c.if-top_denied.true))
 
 pub returns-then-stack-place : goal.returns-then-stack-place
@@ -39,7 +44,7 @@ returns-then-stack-place c =
     Steps.refused
     (StepRefuses.no_room
     (may_be_asked c.in_ok-judge_asked.ensures)
-    (found _ (rw c.in_ok-place.ensures.ok_part at c.find_place.ensures))
+    (leads (goal.at.returns-then-stack-place c).In_ok-place)
     (says_false c.top_denied.ensures c.if-top_denied.false)
     (λ l. omega (arith, l, c.if-stack-place.true)))
 
@@ -47,6 +52,6 @@ pub returns : goal.returns
 returns c =
     Steps.moved
     (may_be_asked c.in_ok-judge_asked.ensures)
-    (found _ (rw c.in_ok-place.ensures.ok_part at c.find_place.ensures))
+    (leads (goal.at.returns c).In_ok-place)
     (says_false c.top_denied.ensures c.if-top_denied.false)
     c.if-stack-place.false

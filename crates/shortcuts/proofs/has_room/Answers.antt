@@ -1,5 +1,5 @@
 use Rattle.std.proofs.Common.{arith}
-use Rattle.truth.specs.Truth.Tests.{says_same, says_no, le?}
+use Rattle.truth.specs.Truth.Tests.{says_same, le?}
 use Rattle.shortcuts.proofs.has_room.Goals as goal
 
 pub returns-then-count-s : goal.returns-then-count-s

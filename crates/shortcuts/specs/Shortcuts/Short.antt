@@ -1,13 +1,12 @@
 -- Fields that are short and have no quotes, by their bytes.
-use Rattle.std.specs.Prelude.{ℕ, zero, suc, ◌+◌, ◌-◌, ◌*◌, ◌^◌, ◌%◌, ◌≤◌, ◌<◌, Bool, true, false, get_or, slice_get, leb, Option, Some, None, option_map, IfSome}
+use Rattle.std.specs.Prelude.{ℕ, zero, suc, ◌+◌, ◌-◌, ◌*◌, ◌^◌, ◌%◌, ◌≤◌, ◌<◌, Bool, true, false, get_or, slice_get, leb, Option, Some, IfSome}
 use Rattle.std.proofs.Math.Path.{◌≡◌, refl, ap}
-use Rattle.std.proofs.Common.{sym, ◌∙◌, subst, arith, lit<, lt-ltb}
+use Rattle.std.proofs.Common.{sym, ◌∙◌, arith, lit<, lt-ltb}
 use Rattle.std.specs.Bool.{then_some}
 use Rattle.std.specs.Char.{is_ascii_digit}
 use Rattle.std.proofs.lemmas.Bool.{and_parts}
 use Rattle.std.proofs.lemmas.Option.{none-some, same_Some}
 use mathlib.Core.List.{List, [], ◌∷◌, ◌++◌}
-use Rattle.std.proofs.Math.ListN.{length-append}
 use Rattle.std.specs.Int.Bits.{bit_or}
 use Rattle.std.proofs.lemmas.Nat.{or_lt}
 use Rattle.std.proofs.Math.Pow.{pow-lt}
@@ -15,14 +14,13 @@ use borrow.Author.Tests.{eq-eqb, leb-true}
 use Rattle.truth.specs.Truth.Bools.{by_split}
 use Rattle.truth.specs.Truth.Kit.{shl_one}
 use Rattle.scan.specs.declared.At.{At}
-use Rattle.scan.specs.declared.Listed.{Listed}
 use Rattle.scan.specs.declared.Listed.TheVariants.{Held}
 use Rattle.scan.specs.Scan.{read_to, nought, number_of, members_of, listed}
 use Rattle.scan.specs.Scan.Bare.{Bare, none, byte, calm_above, bare_then, bare_long, bare_part}
 use Rattle.scan.specs.Scan.Digits.{Digital, end, digit, digital_bare, digital_more, number_one, number_more, Listing, listing_start, listing_next, listing_last}
 use Rattle.lex.specs.Lex.Bare.{bare_comma, bare_end}
 use Rattle.fields.specs.declared.Form.{Form}
-use Rattle.fields.specs.declared.Form.TheVariants.{Tag, Number, Own, Kind, Check, Marks, Way, Empty}
+use Rattle.fields.specs.declared.Form.TheVariants.{Tag, Kind, Way, Empty}
 use Rattle.fields.specs.Fields.{C, R, K, T, says, said_at, form_at, end_at}
 use Rattle.records.specs.Records.{read_as, grants_at}
 use Rattle.records.specs.Records.Rows.{grants_all}

@@ -18,8 +18,10 @@ impl<'a> Writer<'a> {
     {
         if self.at < self.out.len() {
             self.out[self.at] = b;
+            self.at += 1;
+        } else {
+            self.at = self.at.saturating_add(1);
         }
-        self.at = self.at.saturating_add(1);
     }
 
     pub fn put_all(&mut self, bytes: &[u8])

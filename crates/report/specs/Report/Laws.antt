@@ -19,7 +19,7 @@ use Rattle.refusals.specs.Writes.Laws.{writes_one}
 use Rattle.report.specs.Report.{rows_of, WritesGraph, rows, no_graph}
 use Rattle.report.specs.Report.Parts.{WritesJudged, when_accepted, when_refused}
 
-same_refusal : {r q : Refusal} → Err r ≡ Err q → r ≡ q
+same_refusal : {r q : Refusal} → ◌≡◌ {A = Judged} (Err r) (Err q) → r ≡ q
 same_refusal e = cc
 
 module _ (g : Graph) where

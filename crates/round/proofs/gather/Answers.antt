@@ -18,8 +18,8 @@ pub returns-then-begun-clause-gathered : goal.returns-then-begun-clause-gathered
 returns-then-begun-clause-gathered c =
     elim c.if-can_gather.branch [
       | then-can_gather w ↦ rw c.if-begun.true
-        (gathered_by _ _ _ _ _ _ _ _ (says_true c.can_gather.ensures w.if-can_gather.true) (sym w.begun-is ∙ c.if-begun.true) w.begin-begun.ensures.begun
-        (rw w.sums-is at c.gather_all.ensures.ins) (rw w.sums-is at c.gather_all.ensures.past))
+          (gathered_by _ _ _ _ _ _ _ _ (says_true c.can_gather.ensures w.if-can_gather.true) (sym w.begun-is ∙ c.if-begun.true) w.begin-begun.ensures.begun
+          (rw w.sums-is at c.gather_all.ensures.ins) (rw w.sums-is at c.gather_all.ensures.past))
       | else-can_gather w ↦ clash c.if-begun.true (w.begun-is ∙ w.if-can_gather.false)
     ]
 

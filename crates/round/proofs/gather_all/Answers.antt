@@ -1,6 +1,4 @@
-use mathlib.Core.Path.{◌≡◌, ◌∙◌, refl}
-use native.Mathlib.Omega.{arith}
-use lib.ListN.{length}
+use mathlib.Core.Path.{◌∙◌, refl}
 use Rattle.graph.specs.Lent.{lent}
 use Rattle.flow.specs.Walk.{system_of}
 use Rattle.round.specs.Round.{sums_to}

@@ -1,6 +1,5 @@
 -- The sums are what the edges below e make of them, and keep their lengths.
 use mathlib.Core.Path.{◌≡◌}
-use lib.ListN.{length}
 use Rattle.graph.specs.Lent.{lent}
 use Rattle.flow.specs.Walk.{system_of}
 use Rattle.sums.specs.Sums.{SameSums}

@@ -234,6 +234,23 @@ module _ (g : Graph) (acc : Acceptable g) (y : System) (w o s q : List ℕ) (ls 
 
 module _ (g : Graph) (acc : Acceptable g) (w o s q a : List ℕ) (ls : g.size.n ≤ length s) (lq : g.size.n ≤ length q) (lw : g.size.m ≤ length w) (lo : g.size.m ≤ length o)
     (few : (e : ℕ) → e < g.size.m → get_or o e 0 < 2 ^ g.size.k) where
+  -- of a node n whose sums were gathered, and of the from node of an edge
+  gathers_past : {r : Bool} {s' q' : List ℕ} → Gathers g may w o s q r s' q' → (n p : ℕ) → n < g.size.n → p < g.size.k → is_check g n ≡ true
+      → has (get_or q' n 0) p ≡ past_set g (held o) may (held o) n p
+  gathers_past f n p u k i =
+      let t = gathers_stores g acc may w o s q ls lq lw lo f in
+      rw t.past_is (gathered_past g acc w o t.s₀ t.q₀ (omega (arith, t.q_long)) few n p u k i t.first)
+
+  gathers_held : {r : Bool} {s' q' : List ℕ} → Gathers g sure w o s q r s' q' → (n p : ℕ) → n < g.size.n → p < g.size.k → is_check g n ≡ true
+      → (has (get_or q' n 0) p ≡ true) ↔ ((x : Arrival) → Arrives g n x → arriving g (held w) n x (check g n) ≡ true → arriving g (held o) n x p ≡ true)
+  gathers_held f n p u k i =
+      let t = gathers_stores g acc sure w o s q ls lq lw lo f in
+      rw t.past_is (gathered_held g acc w o t.s₀ t.q₀ (omega (arith, t.q_long)) few n p u k i t.first)
+
+  from_in : (y : System) {r : Bool} {s' q' : List ℕ} → Gathers g y w o s q r s' q' → (e p : ℕ) → e < g.size.m → p < g.size.k
+      → has (get_or s' (from g e) 0) p ≡ in_set g y (held o) (from g e) p
+  from_in y f e p l k = gathers_in g acc y w o s q ls lq lw lo f (from g e) p (from_low g acc e l) k
+
   pub may_round : {r : Bool} {s' q' : List ℕ} → Gathers g may w o s q r s' q'
       → (e p : ℕ) → e < g.size.m → p < g.size.k → has (carried g may a s' q' e) p ≡ out_set g (held o) may (held o) e p
   unfolding past_num
@@ -241,20 +258,11 @@ module _ (g : Graph) (acc : Acceptable g) (w o s q a : List ℕ) (ls : g.size.n 
       has_carried g may a s' q' e p ∙ same_bool _ _ (out_rule_mono g e p _ _ _ _ (λ t. sym in_is ∙ t) (λ i t. sym (past_is i) ∙ t)) (out_rule_mono g e p _ _ _ _ (λ t. in_is ∙ t) (λ i t. past_is i ∙ t))
       ∙ sym (out_by_rule g (held o) may (held o) e p)
     where
-      n : ℕ
-      n = from g e
+      in_is : has (get_or s' (from g e) 0) p ≡ in_set g may (held o) (from g e) p
+      in_is = from_in may f e p l k
 
-      low : n < g.size.n
-      low = from_low g acc e l
-
-      t : Stores g acc may w o s q ls lq lw lo s' q'
-      t = gathers_stores g acc may w o s q ls lq lw lo f
-
-      in_is : has (get_or s' n 0) p ≡ in_set g may (held o) n p
-      in_is = gathers_in g acc may w o s q ls lq lw lo f n p low k
-
-      past_is : is_check g n ≡ true → has (get_or q' n 0) p ≡ past_set g (held o) may (held o) n p
-      past_is i = rw t.past_is (gathered_past g acc w o t.s₀ t.q₀ (omega (arith, t.q_long)) few n p low k i t.first)
+      past_is : is_check g (from g e) ≡ true → has (get_or q' (from g e) 0) p ≡ past_set g (held o) may (held o) (from g e) p
+      past_is i = gathers_past f (from g e) p (from_low g acc e l) k i
 
   -- a says of every check whether anything passes it, by MAY's out sets w
   pub sure_round : AnyPasses g sure w a → {r : Bool} {s' q' : List ℕ} → Gathers g sure w o s q r s' q'
@@ -272,14 +280,11 @@ module _ (g : Graph) (acc : Acceptable g) (w o s q a : List ℕ) (ls : g.size.n 
       low : n < g.size.n
       low = from_low g acc e l
 
-      t : Stores g acc sure w o s q ls lq lw lo s' q'
-      t = gathers_stores g acc sure w o s q ls lq lw lo f
-
       in_is : has (get_or s' n 0) p ≡ in_set g sure (held o) n p
-      in_is = gathers_in g acc sure w o s q ls lq lw lo f n p low k
+      in_is = from_in sure f e p l k
 
       held_is : is_check g n ≡ true → (has (get_or q' n 0) p ≡ true) ↔ ((x : Arrival) → Arrives g n x → arriving g (held w) n x (check g n) ≡ true → arriving g (held o) n x p ≡ true)
-      held_is i = rw t.past_is (gathered_held g acc w o t.s₀ t.q₀ (omega (arith, t.q_long)) few n p low k i t.first)
+      held_is i = gathers_held f n p low k i
 
       past_onward : is_check g n ≡ true → has (past_num sure c (get_or q' n 0) (has (get_or a n 0) c)) p ≡ true → past_set g (held w) sure (held o) n p ≡ true
       past_onward i v = by (has (get_or a n 0) c) refl (sym (has_past_sure c (get_or q' n 0) p (has (get_or a n 0) c)) ∙ v)

@@ -59,9 +59,9 @@ pub record Settles (x : Ground) (s : Sums) : Type 0 where
 abbrev pub Carries : Graph → System → (a : List ℕ) → Sums → (out : List ℕ) → Type 0
 Carries g y a s out = (e : ℕ) → e < g.size.m → get_or out e 0 ≡ carried g y a s.ins.now s.past.now e
 
--- The sets of the nodes below n are stored, by the sums of both systems, and those of the edges stay.
-pub record NodesStored (g : Graph) (by_may by_sure : Sums) (old new : SetPlaces) (n : ℕ) : Type 0 where
-  pub nodes : walk.NodesStored g.size.k n g.nodes.privileged g.nodes.grants by_may.ins.now by_sure.ins.now new.denied.now new.granted.now
+-- The sets of the nodes below n are stored, by what arrives at each, and those of the edges stay.
+pub record NodesStored (g : Graph) (by_may by_sure : List ℕ) (old new : SetPlaces) (n : ℕ) : Type 0 where
+  pub nodes : walk.NodesStored g.size.k n g.nodes.privileged g.nodes.grants by_may by_sure new.denied.now new.granted.now
   pub denied_long : length new.denied.now ≡ length old.denied.now
   pub granted_long : length new.granted.now ≡ length old.granted.now
   pub may : new.may.now ≡ old.may.now

@@ -171,19 +171,18 @@ fn spread(out: &mut [u64], system: System, graph: &LentGraph, any: &[u64], sums:
     round::spread(out, system, graph, any, sums.ins, sums.past);
 }
 
-// The denied and granted sets of all nodes, from the sums of both systems.
-fn store_nodes(into: &mut SetPlaces, graph: &LentGraph, may: &Sums, sure: &Sums)
+// The denied and granted sets of all nodes, from what arrives at each by MAY and by SURE.
+fn store_nodes(into: &mut SetPlaces, graph: &LentGraph, may: &[u64], sure: &[u64])
     requires shape { Shape (lent graph.now) }
     requires long { Long (lent graph.now) (stored into.old) }
-    requires may { HasSums graph.now.size.n may.now }
-    requires sure { HasSums graph.now.size.n sure.now }
+    requires sums { (graph.now.size.n ≤ length may.now) × (graph.now.size.n ≤ length sure.now) }
     ensures { NodesStored (lent graph.now) may.now sure.now into.old into.new graph.now.size.n }
 {
     for i in 0..graph.size.n {
         let mark = graph.nodes.privileged[i];
         let own = graph.nodes.grants[i];
-        into.denied[i] = flow::deny(graph.size.k, mark, own, may.ins[i]);
-        into.granted[i] = flow::called(mark, own, sure.ins[i]);
+        into.denied[i] = flow::deny(graph.size.k, mark, own, may[i]);
+        into.granted[i] = flow::called(mark, own, sure[i]);
     }
 }
 
@@ -222,16 +221,17 @@ fn store(graph: &LentGraph, into: &mut SetPlaces)
         ins: &mut sure_ins,
         past: &mut sure_past,
     };
+    let any = &*may.past;
     let ground = Ground {
         system: System::Sure,
         graph: *graph,
         lists: &lists,
         wide: into.may,
-        any: may.past,
+        any: &*any,
     };
     settle(&mut sure, &ground);
-    spread(into.sure, System::Sure, graph, may.past, &sure);
-    store_nodes(into, graph, &may, &sure);
+    spread(into.sure, System::Sure, graph, any, &sure);
+    store_nodes(into, graph, may.ins, sure.ins);
 }
 
 // Solves both systems, and stores the denied and granted sets of every node and the MAY and SURE out sets of every edge. A refusal

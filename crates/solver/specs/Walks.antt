@@ -12,15 +12,22 @@ use Rattle.solver.specs.declared.Ground.{Ground}
 use Rattle.solver.specs.declared.Brought.{Brought}
 use Rattle.solver.specs.declared.SetPlaces.{SetPlaces}
 
+-- For SURE, MAY's out sets, and MAY's sums of what passes each check.
+abbrev pub wide : Ground → List ℕ
+wide x = x.sets.now.may.now
+
+abbrev pub any : Ground → List ℕ
+any x = x.left.now.past.now
+
 -- A walk can go over it: the graph is accepted, what is said of MAY is true, the lists hold the graph's edges, and each slice has a place for
 -- each node or edge.
 pub record Walkable (x : Ground) : Type 0 where
-  pub setting : Setting (lent x.graph) (system_of x.system) x.wide.now x.any.now
+  pub setting : Setting (lent x.graph) (system_of x.system) (wide x) (any x)
   pub linked : Linked x.graph.edges.froms.now x.graph.size.n x.lists.now.head.now x.lists.now.prev.now x.graph.size.m
   pub head_long : x.graph.size.n ≤ length x.lists.now.head.now
   pub prev_long : x.graph.size.m ≤ length x.lists.now.prev.now
-  pub wide_long : x.graph.size.m ≤ length x.wide.now
-  pub any_long : x.graph.size.n ≤ length x.any.now
+  pub wide_long : x.graph.size.m ≤ length (wide x)
+  pub any_long : x.graph.size.n ≤ length (any x)
 
 -- The sums have a place for each of n nodes.
 pub record HasSums (n : ℕ) (s : Sums) : Type 0 where
@@ -30,12 +37,12 @@ pub record HasSums (n : ℕ) (s : Sums) : Type 0 where
 -- What leaves node i.
 abbrev pub Leaves : Ground → Sums → ℕ → Leaving → Type 0
 Leaves x s i l =
-    LeavesAt x.graph.nodes.kinds.now x.graph.nodes.checks.now x.graph.nodes.privileged.now x.graph.nodes.grants.now (system_of x.system) x.any.now s.ins.now s.past.now i l.call l.trans
+    LeavesAt x.graph.nodes.kinds.now x.graph.nodes.checks.now x.graph.nodes.privileged.now x.graph.nodes.grants.now (system_of x.system) (any x) s.ins.now s.past.now i l.call l.trans
 
 -- What edge e brings of what leaves its from node.
 abbrev pub Brings : Ground → Leaving → ℕ → Brought → Type 0
 Brings x l e b =
-    walk.Brings x.graph.nodes.kinds.now x.graph.nodes.checks.now x.graph.nodes.grants.now x.graph.edges.tos.now x.graph.edges.ways.now (system_of x.system) x.wide.now l.call l.trans e b.to b.set b.counted
+    walk.Brings x.graph.nodes.kinds.now x.graph.nodes.checks.now x.graph.nodes.grants.now x.graph.edges.tos.now x.graph.edges.ways.now (system_of x.system) (wide x) l.call l.trans e b.to b.set b.counted
 
 -- What a walk writes.
 abbrev pub state_of : Sums → Pending → State
@@ -44,24 +51,24 @@ state_of s p = state s.ins.now s.past.now p.marks.now p.stack.now p.top
 -- After what leaves a node was brought along its edges, which start before `first`.
 abbrev pub sent : Ground → Leaving → (first : ℕ) → State → State
 sent x l first =
-    send_from x.graph.nodes.kinds.now x.graph.nodes.checks.now x.graph.nodes.grants.now x.graph.edges.tos.now x.graph.edges.ways.now (system_of x.system) x.wide.now x.lists.now.prev.now l.call l.trans first first
+    send_from x.graph.nodes.kinds.now x.graph.nodes.checks.now x.graph.nodes.grants.now x.graph.edges.tos.now x.graph.edges.ways.now (system_of x.system) (wide x) x.lists.now.prev.now l.call l.trans first first
 
 -- A walk is on its way.
 abbrev pub Walks : Ground → State → Type 0
-Walks x = Walking (lent x.graph) (system_of x.system) x.wide.now x.any.now
+Walks x = Walking (lent x.graph) (system_of x.system) (wide x) (any x)
 
 -- A walk is at its end: no edge has anything more to tell.
 pub record Settles (x : Ground) (s : Sums) : Type 0 where
-  pub good : Good (lent x.graph) (system_of x.system) x.wide.now s.ins.now s.past.now
-  pub quiet : (e : ℕ) → e < x.graph.size.m → Quiet (lent x.graph) (system_of x.system) x.wide.now x.any.now s.ins.now s.past.now e
+  pub good : Good (lent x.graph) (system_of x.system) (wide x) s.ins.now s.past.now
+  pub quiet : (e : ℕ) → e < x.graph.size.m → Quiet (lent x.graph) (system_of x.system) (wide x) (any x) s.ins.now s.past.now e
 
--- The out sets are what the edges carry; a: for SURE, MAY's sums of what passes.
-abbrev pub Carries : Graph → System → (a : List ℕ) → Sums → (out : List ℕ) → Type 0
-Carries g y a s out = (e : ℕ) → e < g.size.m → get_or out e 0 ≡ carried g y a s.ins.now s.past.now e
+-- The out sets are what the edges carry by the sums s, where the other system left the sums l.
+abbrev pub Carries : Graph → System → (l s : Sums) → (out : List ℕ) → Type 0
+Carries g y l s out = (e : ℕ) → e < g.size.m → get_or out e 0 ≡ carried g y l.past.now s.ins.now s.past.now e
 
--- The sets of the nodes below n are stored, by what arrives at each, and those of the edges stay.
-pub record NodesStored (g : Graph) (by_may by_sure : List ℕ) (old new : SetPlaces) (n : ℕ) : Type 0 where
-  pub nodes : walk.NodesStored g.size.k n g.nodes.privileged g.nodes.grants by_may by_sure new.denied.now new.granted.now
+-- The sets of the nodes below n are stored, by the sums of both systems, and those of the edges stay.
+pub record NodesStored (g : Graph) (by_may by_sure : Sums) (old new : SetPlaces) (n : ℕ) : Type 0 where
+  pub nodes : walk.NodesStored g.size.k n g.nodes.privileged g.nodes.grants by_may.ins.now by_sure.ins.now new.denied.now new.granted.now
   pub denied_long : length new.denied.now ≡ length old.denied.now
   pub granted_long : length new.granted.now ≡ length old.granted.now
   pub may : new.may.now ≡ old.may.now

@@ -22,15 +22,15 @@ pub struct SetPlaces<'a> {
     pub sure: &'a mut [u64],
 }
 
-// What a walk goes over: a graph, the lists of its edges, and what MAY left of it, the out sets of the edges and the sums of what passes each
-// check. MAY itself looks at neither.
+// What a walk goes over: a graph, the lists of its edges, and what the other system left: its sums, and MAY's out sets. MAY itself looks at
+// neither.
 #[derive(Clone, Copy)]
-struct Ground<'a, 'b> {
+struct Ground<'a> {
     system: System,
     graph: LentGraph<'a>,
-    lists: &'a EdgeLists<'b>,
-    wide: &'a [u64],
-    any: &'a [u64],
+    lists: &'a EdgeLists<'a>,
+    left: &'a Sums<'a>,
+    sets: &'a SetPlaces<'a>,
 }
 
 // What an edge brings: to which node, which set, and whether it counts there.
@@ -41,7 +41,7 @@ struct Brought {
     counted: bool,
 }
 
-impl Ground<'_, '_> {
+impl Ground<'_> {
     fn node(&self, i: usize) -> Node
         requires walkable { Walkable self.now }
         requires i_in_bounds { i < self.now.graph.size.n }
@@ -58,17 +58,17 @@ impl Ground<'_, '_> {
     }
 
     // Whether the set v of edge e counts at the node that it arrives at. Most nodes are no checks, and MAY judges a set by itself: there
-    // `wide` is not read.
+    // no other set is read.
     fn counts_at(&self, node: Node, e: usize, v: u64) -> bool
-        requires { e < length self.now.wide.now }
-        ensures { result ≡ counts_num (system_of self.now.system) node.kind node.check (get_or self.now.wide.now e 0) v }
+        requires { e < length self.now.sets.now.may.now }
+        ensures { result ≡ counts_num (system_of self.now.system) node.kind node.check (get_or self.now.sets.now.may.now e 0) v }
     {
         if node.kind != graph::KIND_CHECK {
             return false;
         }
         let wide = match self.system {
             System::May => v,
-            System::Sure => self.wide[e],
+            System::Sure => self.sets.may[e],
         };
         flow::counts(self.system, node.kind, node.check, wide, v)
     }
@@ -99,7 +99,7 @@ impl Ground<'_, '_> {
         let arrived = Arrived {
             all: sums.ins[i],
             past: sums.past[i],
-            any: self.any[i],
+            any: self.left.past[i],
         };
         flow::leave(self.system, self.node(i), arrived)
     }
@@ -162,27 +162,29 @@ fn settle(sums: &mut Sums, ground: &Ground)
 }
 
 // The out sets of one system's edges.
-fn spread(out: &mut [u64], system: System, graph: &LentGraph, any: &[u64], sums: &Sums)
+fn spread(out: &mut [u64], system: System, graph: &LentGraph, left: &Sums, sums: &Sums)
     requires acceptable { Acceptable (lent graph.now) }
+    requires left { HasSums graph.now.size.n left.now }
     requires sums { HasSums graph.now.size.n sums.now }
-    requires long { (graph.now.size.n ≤ length any.now) × (graph.now.size.m ≤ length out.old) }
-    ensures { Carries (lent graph.now) (system_of system) any.now sums.now out.new }
+    requires out_long { graph.now.size.m ≤ length out.old }
+    ensures { Carries (lent graph.now) (system_of system) left.now sums.now out.new }
 {
-    round::spread(out, system, graph, any, sums.ins, sums.past);
+    round::spread(out, system, graph, left.past, sums.ins, sums.past);
 }
 
-// The denied and granted sets of all nodes, from what arrives at each by MAY and by SURE.
-fn store_nodes(into: &mut SetPlaces, graph: &LentGraph, may: &[u64], sure: &[u64])
+// The denied and granted sets of all nodes, from the sums of both systems.
+fn store_nodes(into: &mut SetPlaces, graph: &LentGraph, may: &Sums, sure: &Sums)
     requires shape { Shape (lent graph.now) }
     requires long { Long (lent graph.now) (stored into.old) }
-    requires sums { (graph.now.size.n ≤ length may.now) × (graph.now.size.n ≤ length sure.now) }
+    requires may { HasSums graph.now.size.n may.now }
+    requires sure { HasSums graph.now.size.n sure.now }
     ensures { NodesStored (lent graph.now) may.now sure.now into.old into.new graph.now.size.n }
 {
     for i in 0..graph.size.n {
         let mark = graph.nodes.privileged[i];
         let own = graph.nodes.grants[i];
-        into.denied[i] = flow::deny(graph.size.k, mark, own, may[i]);
-        into.granted[i] = flow::called(mark, own, sure[i]);
+        into.denied[i] = flow::deny(graph.size.k, mark, own, may.ins[i]);
+        into.granted[i] = flow::called(mark, own, sure.ins[i]);
     }
 }
 
@@ -205,33 +207,31 @@ fn store(graph: &LentGraph, into: &mut SetPlaces)
         ins: &mut may_ins,
         past: &mut may_past,
     };
-    // MAY looks at no other out sets and sums: any slices of the right lengths are lent it.
-    let ground = Ground {
-        system: System::May,
-        graph: *graph,
-        lists: &lists,
-        wide: into.sure,
-        any: graph.nodes.grants,
-    };
-    settle(&mut may, &ground);
-    spread(into.may, System::May, graph, graph.nodes.grants, &may);
     let mut sure_ins = [0u64; graph::MOST_NODES];
     let mut sure_past = [0u64; graph::MOST_NODES];
     let mut sure = Sums {
         ins: &mut sure_ins,
         past: &mut sure_past,
     };
-    let any = &*may.past;
+    let ground = Ground {
+        system: System::May,
+        graph: *graph,
+        lists: &lists,
+        left: &sure,
+        sets: into,
+    };
+    settle(&mut may, &ground);
+    spread(into.may, System::May, graph, &sure, &may);
     let ground = Ground {
         system: System::Sure,
         graph: *graph,
         lists: &lists,
-        wide: into.may,
-        any: &*any,
+        left: &may,
+        sets: into,
     };
     settle(&mut sure, &ground);
-    spread(into.sure, System::Sure, graph, any, &sure);
-    store_nodes(into, graph, may.ins, sure.ins);
+    spread(into.sure, System::Sure, graph, &may, &sure);
+    store_nodes(into, graph, &may, &sure);
 }
 
 // Solves both systems, and stores the denied and granted sets of every node and the MAY and SURE out sets of every edge. A refusal

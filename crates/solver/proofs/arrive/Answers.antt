@@ -5,4 +5,4 @@ use Rattle.solver.proofs.arrive.Goals as goal
 pub returns : goal.returns
 returns c =
     let place = c.requires in
-    arrived _ _ _ _ _ _ _ _ _ _ _ _ _ _ _ (delivers_low _ _ _ _ _ _ _ _ _ place.0 place.1 c.deliver-changed.ensures) c.put.ensures
+    arrived _ _ _ _ _ _ _ _ _ _ _ _ _ _ _ (delivers_low _ _ _ _ _ _ _ _ _ place.0 place.1 c.deliver-changed.ensures.delivered) c.put.ensures.put

@@ -15,7 +15,7 @@ begins_long (kept _) = (refl, refl)
 
 pub walk-requires-clause-walking : goal.walk-requires-clause-walking
 walk-requires-clause-walking c =
-    let b = c.begin.ensures in
+    let b = c.begin.ensures.begun in
     let f = c.fill in
     let acc = c.requires.walkable.setting.acc in
     let sums = c.requires.sums in

@@ -2,7 +2,7 @@
 -- check (`may_any`); both, with the sets of the nodes, are the content asked for (`walked_content`).
 use Rattle.std.specs.Prelude.{◌≡◌, ℕ, zero, suc, ◌≤◌, Bool, List, length, refl}
 use Rattle.std.proofs.Common.{◌∙◌, arith, length-set}
-use Rattle.std.proofs.Math.ListN.{get_or-replicate}
+use Rattle.std.proofs.Math.ListN.{replicate, length-replicate, get_or-replicate}
 use Rattle.graph.specs.Graph.{may, sure}
 use Rattle.graph.specs.Lent.{lent}
 use Rattle.worklist.specs.Worklist.{Linked, Lists, link_to, Links, linked, kept}
@@ -32,16 +32,16 @@ module _ (c : After-link) where
   edges_linked =
       let acc = c.requires.acceptable in
       let high = acc.shape.ranges in
-      lists_linked _ _ _ acc (λ i l. get_or-replicate 1024 i 0 0 l) (omega (arith, high.n_high)) (omega (arith, high.m_high)) c.link.ensures
+      lists_linked _ _ _ acc (λ i l. get_or-replicate 1024 i 0 0 l) (omega (arith, high.n_high)) (omega (arith, high.m_high)) c.link.ensures.linked
 
   head_long : c.args.graph.now.size.n ≤ length c.link.new.self.head.now
-  head_long = omega (arith, (links_long c.link.ensures).0, c.requires.acceptable.shape.ranges.n_high)
+  head_long = omega (arith, (links_long c.link.ensures.linked).0, c.requires.acceptable.shape.ranges.n_high)
 
   prev_long : c.args.graph.now.size.m ≤ length c.link.new.self.prev.now
-  prev_long = omega (arith, (links_long c.link.ensures).1, c.requires.acceptable.shape.ranges.m_high)
+  prev_long = omega (arith, (links_long c.link.ensures.linked).1, c.requires.acceptable.shape.ranges.m_high)
 
 module _ (c : After-spread) where
-  may_settled : Settled (lent c.args.graph.now) may c.args.into.now.sure.now c.args.graph.now.nodes.grants.now c.settle.new.sums.ins.now c.settle.new.sums.past.now c.spread.new.out
+  may_settled : Settled (lent c.args.graph.now) may c.args.into.now.may.now (replicate 1024 0) c.settle.new.sums.ins.now c.settle.new.sums.past.now c.spread.new.out
   may_settled =
       let s = c.settle.ensures.settled in
       record { setting = record { acc = c.requires.acceptable; any = tt }; good = s.good; quiet = s.quiet; stored = c.spread.ensures }
@@ -58,8 +58,8 @@ settle-requires-clause-walkable c =
       linked = edges_linked k;
       head_long = head_long k;
       prev_long = prev_long k;
-      wide_long = omega (arith, c.requires.long.sure_long);
-      any_long = omega (arith, acc.shape.nodes.grants);
+      wide_long = omega (arith, c.requires.long.may_long);
+      any_long = omega (arith, length-replicate {A = ℕ} 1024 0, acc.shape.ranges.n_high);
     }
 
 pub settle-requires-2-clause-walkable : goal.settle-requires-2-clause-walkable

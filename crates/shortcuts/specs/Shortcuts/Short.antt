@@ -25,7 +25,7 @@ use Rattle.fields.specs.Fields.{C, R, K, T, says, said_at, form_at, end_at}
 use Rattle.records.specs.Records.{read_as, grants_at}
 use Rattle.records.specs.Records.Rows.{grants_all}
 
--- An answer is right, where there is one.
+-- What a function answers that knows the right answer of some inputs, and says nothing of the others.
 abbrev pub Quick : {X : Type 0} → (right answer : Option X) → Type 0
 Quick right answer = IfSome answer (λ x. right ≡ Some x)
 
@@ -40,14 +40,11 @@ let_through P false e h = rw e tt
 abbrev pub digit_of : ℕ → Option ℕ
 digit_of b = then_some (is_ascii_digit b) (b - nought)
 
-digit_is : (b : ℕ) {d : ℕ} → digit_of b ≡ Some d → (b ≡ d + 48) × (d ≤ 9)
+pub digit_is : (b : ℕ) {d : ℕ} → digit_of b ≡ Some d → (b ≡ d + 48) × (d ≤ 9)
 digit_is b e =
     by_split (is_ascii_digit b)
     (λ t. let p = and_parts (leb 48 b) (leb b 57) t in let z = same_Some (b - 48) _ (simp t at e) in (omega (arith, z, leb-true 48 b p.0), omega (arith, z, leb-true b 57 p.1)))
     (λ t. absurd (none-some _ (simp t at e)))
-
-pub digit_low : (b : ℕ) {d : ℕ} → digit_of b ≡ Some d → d ≤ 9
-digit_low b e = (digit_is b e).1
 
 -- A number of one to four digits, whatever follows them.
 pub record Numeral (s : List ℕ) (at : ℕ) (x : At ℕ) : Type 0 where
@@ -77,7 +74,7 @@ module _ {s : List ℕ} {at : ℕ} where
 
 -- ---- fields
 
--- What a form's field says by its bytes from a position on, which have no quotes, and where it ends.
+-- Bytes without quotes that are a field of a form, from a position on: what they say, and where they end.
 pub record Stands (form : Form) (s : List ℕ) (at : ℕ) (x : At ℕ) : Type 0 where
   pub bytes : List ℕ
   pub stand : Bare s at bytes x.next
@@ -139,6 +136,7 @@ way_says (suc (suc k)) b e = absurd (none-some _ e)
 
 -- ---- ends of rows
 
+-- CRLF.
 pub record EndsRow (s : List ℕ) (at : ℕ) : Type 0 where
   pub cr : get_or s at 0 ≡ 13
   pub lf : get_or s (at + 1) 0 ≡ 10

@@ -100,7 +100,7 @@ fn short_marks(s: &[u8], at: usize) -> At<usize>
 }
 
 // A short field of a form, and where it ends if it is one. Inlined, so that the form is known where a field is read: a program that reads 65,536 bytes of
-// rows then takes 471,840 instructions for them, and 1,042,945 where the compiler keeps one function of all forms.
+// rows then takes 500,974 instructions for them, and 1,102,603 where the compiler keeps one function of all forms.
 #[inline(always)]
 fn short_part(s: &[u8], at: usize, form: Form) -> Option<At<usize>>
     requires room { at + FIELD_ROOM ≤ length s.now }

@@ -144,17 +144,13 @@ fn find_place(graph: &LentGraph, stack: &[u16], height: usize, next: usize) -> O
     if height == 0 {
         return (graph.nodes.entries[next] == graph::MARKED).then_some(0);
     }
-    let m = graph.size.m;
-    let edges = &graph.edges;
+    let leads = |kind: u8, from: usize| edges::lead(graph.size.m, &graph.edges, kind, from, next);
     let top = stack[height - 1] as usize;
     match graph.nodes.kinds[top] {
-        graph::KIND_CALL => edges::lead(m, edges, graph::CALL, top, next).then_some(height),
-        graph::KIND_CHECK => edges::lead(m, edges, graph::TRANSFER, top, next).then_some(
-            height - 1,
-        ),
+        graph::KIND_CALL => leads(graph::CALL, top).then_some(height),
+        graph::KIND_CHECK => leads(graph::TRANSFER, top).then_some(height - 1),
         graph::KIND_RETURN if 2 <= height => {
-            let lower = stack[height - 2] as usize;
-            edges::lead(m, edges, graph::TRANSFER, lower, next).then_some(height - 2)
+            leads(graph::TRANSFER, stack[height - 2] as usize).then_some(height - 2)
         }
         _ => None,
     }

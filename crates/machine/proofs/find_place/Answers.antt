@@ -1,5 +1,5 @@
 -- Each way out of the function tests the one rule that may lead to the next node there.
-use Rattle.std.proofs.Common.{arith}
+use Rattle.std.proofs.Common.{arith, rules}
 use borrow.Author.Tests.{eqb-true, eqb-false}
 use Rattle.graph.specs.Lent.{lent}
 use Rattle.edges.specs.Leading.Search.{leads_so, leads_not}
@@ -18,25 +18,25 @@ pub returns-in-0 : goal.returns-in-0
 returns-in-0 c =
     rw c.then_some-in-0.ensures
     (placed_if _ _ _
-    (λ t. Rule.call (omega arith) c.in-0.is (leads_so c.lead.ensures t))
+    (λ t. Rule.call (omega arith) c.in-0.is (leads_so (search rules) t))
     (λ f.
-    no_rule (lent c.args.graph.now) (λ h _. omega arith) (λ _ _. leads_not c.lead.ensures c.requires.acceptable.shape.edges f) (λ _ k _. omega arith) (λ _ k _. omega arith)))
+    no_rule (lent c.args.graph.now) (λ h _. omega arith) (λ _ _. leads_not (search rules) c.requires.acceptable.shape.edges f) (λ _ k _. omega arith) (λ _ k _. omega arith)))
 
 pub returns-in-2 : goal.returns-in-2
 returns-in-2 c =
     rw c.then_some-in-2.ensures
     (placed_if _ _ _
-    (λ t. Rule.pass (omega arith) c.in-2.is (leads_so c.lead-in-2.ensures t))
+    (λ t. Rule.pass (omega arith) c.in-2.is (leads_so (search rules) t))
     (λ f.
-    no_rule (lent c.args.graph.now) (λ h _. omega arith) (λ _ k _. omega arith) (λ _ _. leads_not c.lead-in-2.ensures c.requires.acceptable.shape.edges f) (λ _ k _. omega arith)))
+    no_rule (lent c.args.graph.now) (λ h _. omega arith) (λ _ k _. omega arith) (λ _ _. leads_not (search rules) c.requires.acceptable.shape.edges f) (λ _ k _. omega arith)))
 
 pub returns-in-1 : goal.returns-in-1
 returns-in-1 c =
     rw c.then_some-in-1.ensures
     (placed_if _ _ _
-    (λ t. Rule.back c.if-height-ge2.true c.in-1.is (leads_so c.lead-in-1.ensures t))
+    (λ t. Rule.back c.if-height-ge2.true c.in-1.is (leads_so (search rules) t))
     (λ f.
-    no_rule (lent c.args.graph.now) (λ h _. omega arith) (λ _ k _. omega arith) (λ _ k _. omega arith) (λ _ _. leads_not c.lead-in-1.ensures c.requires.acceptable.shape.edges f)))
+    no_rule (lent c.args.graph.now) (λ h _. omega arith) (λ _ k _. omega arith) (λ _ k _. omega arith) (λ _ _. leads_not (search rules) c.requires.acceptable.shape.edges f)))
 
 pub returns-in_default : goal.returns-in_default
 returns-in_default c =

@@ -18,10 +18,10 @@ edge_slots x = edges_of x.froms x.tos x.ways
 abbrev pub slots_graph : Size → Slots → Graph
 slots_graph c x = record { size = c; nodes = node_slots x.nodes; edges = edge_slots x.edges }
 
--- Room for every graph, and 0 in every place.
 abbrev pub Zeros : List ℕ → Type 0
 Zeros l = (i : ℕ) → get_or l i 0 ≡ 0
 
+-- Room for every graph, and 0 in every place.
 pub record Clear (x : Slots) : Type 0 where
   pub room : Ample (map_node length (node_slots x.nodes)) (map_edge length (edge_slots x.edges))
   pub nodes : EachNode Zeros (node_slots x.nodes)

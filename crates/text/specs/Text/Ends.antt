@@ -1,6 +1,6 @@
 -- How a text's meaning follows from where its rows end.
 use Rattle.std.specs.Prelude.{ℕ, zero, suc, ◌+◌, ◌≡◌, refl, true, false, List, ◌∷◌, length, ltb, Option, Some, None, Ok, Err}
-use Rattle.std.proofs.Common.{sym, ap, subst, ◌∙◌}
+use Rattle.std.proofs.Common.{sym, ap, subst, ◌∙◌, ltb-true, ltb-false}
 use Rattle.truth.specs.Truth.Bools.{by_split}
 use Rattle.scan.specs.declared.At.{At}
 use Rattle.scan.specs.Scan.{read_to}
@@ -12,6 +12,7 @@ use Rattle.graph.specs.declared.Refusal.TheVariants as why
 use Rattle.records.specs.Records.{header_at, node_at, kept}
 use Rattle.records.specs.Records.Rows.{header_ranges}
 use Rattle.extent.specs.Extent.{Ran, Parsed, end_of}
+use Rattle.extent.specs.Extent.Laws.{end_wrong, end_more, end_done}
 use Rattle.extent.specs.declared.Slots.{Slots}
 use Rattle.extent.specs.Room.{node_slots}
 use Rattle.handover.specs.Handover.{NodesWritten}
@@ -76,21 +77,6 @@ kept_rows s (suc n) p i = by (node_at s p i) refl (λ q. kept_rows s n q (i + 1)
     by None w r = simp w
     by (Some x) w r = simp w (ap (λ l. kept x.value ∷ l) (r x.next))
 
--- ---- the end
-
-module _ (ran : Ran) (len extra : ℕ) (c : Size) where
-  end_wrong : {r : Refusal} → ran ≡ Err r → end_of ran len extra c ≡ Err r
-  unfolding end_of
-  end_wrong e = simp e
-
-  end_more : {q : ℕ} → ran ≡ Ok q → ltb q len ≡ true → end_of ran len extra c ≡ Err (why.Row extra)
-  unfolding end_of
-  end_more e h = simp (e, h)
-
-  end_done : {q : ℕ} → ran ≡ Ok q → ltb q len ≡ false → end_of ran len extra c ≡ Ok c
-  unfolding end_of
-  end_done e h = simp (e, h)
-
 -- ---- the text
 
 module _ (s : List ℕ) (from row : ℕ) where
@@ -151,13 +137,13 @@ module _ (s : List ℕ) (from row : ℕ) where
       unfolding es
       by_edges (Err r) v =
           let w = rows_stop (edge_row s) (row + 1 + c.value.n) c.value.m q 0 (sym t.answer ∙ v) in
-          faults {before = before} {after = after} (end_wrong _ _ _ _ v ∙ ap Err w.2) (text_edge nodes_are.0 w.1)
+          faults {before = before} {after = after} (end_wrong _ _ _ v ∙ ap Err w.2) (text_edge nodes_are.0 w.1)
       by_edges (Ok x) v =
           let g = rows_past (edge_row s) (row + 1 + c.value.n) c.value.m q 0 (sym t.answer ∙ v) in
           by_split (ltb x (length s))
-          (λ l. faults {before = before} {after = after} (end_more _ _ _ _ v l) (text_extra nodes_are.0 g.0 l))
+          (λ l. faults {before = before} {after = after} (end_more _ _ _ v (ltb-true x (length s) l)) (text_extra nodes_are.0 g.0 l))
           (λ l.
-          subst (λ (y : Parsed). Parses (slots before) s from row y (slots after)) (sym (end_done _ _ _ _ v l))
+          subst (λ (y : Parsed). Parses (slots before) s from row y (slots after)) (sym (end_done _ _ _ v (ltb-false x (length s) l)))
           (counted (header_ranges s from e) (text_says nodes_are.0 g.0 l) (sym nodes_are.1) (sym g.1) so))
 
       pub parse_past : Parses (slots before) s from row (end_of ran (length s) (row + 1 + c.value.n + c.value.m) c.value) (slots after)

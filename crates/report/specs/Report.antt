@@ -1,5 +1,4 @@
 -- The rows of a graph by the sets that solve it, and what the call that writes them promises. Definitions alone.
-pub mod Parts
 pub mod Laws
 use Rattle.std.specs.Prelude.{List, ℕ}
 use Rattle.graph.specs.Graph.{Graph, Acceptable, Slices, Content}

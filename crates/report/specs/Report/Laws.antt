@@ -17,7 +17,6 @@ use Rattle.refusals.specs.Writes.{Writes}
 use Rattle.rows.specs.Result.{Long, WritesResult, shape, result}
 use Rattle.refusals.specs.Writes.Laws.{writes_one}
 use Rattle.report.specs.Report.{rows_of, WritesGraph, rows, no_graph}
-use Rattle.report.specs.Report.Parts.{WritesJudged, when_accepted, when_refused}
 
 same_refusal : {r q : Refusal} → ◌≡◌ {A = Judged} (Err r) (Err q) → r ≡ q
 same_refusal e = cc
@@ -43,10 +42,12 @@ module _ (g : Graph) where
   graph_refused l (solve.results d) = absurd (d l)
   graph_refused l (solve.graph _ f) = f
 
-  pub graph_written : {s t : Slices} {j : Judged} {r : Written} {before after : List ℕ} → solve.Long g s → Solves g s j t
-      → WritesJudged g.size.n g.nodes.kinds g.nodes.checks t.denied t.granted before j r after → WritesGraph g before r after
-  graph_written l (solved _ acc c) (when_accepted w) = result_written acc c w
-  graph_written l (solve.refused f) when_refused = no_graph (Judges.refused (graph_refused l f))
+  pub graph_written : {s t : Slices} {r : Written} {before after : List ℕ} → solve.Long g s → Solves g s (Ok tt) t → WritesResult g.size.n g.nodes.kinds g.nodes.checks t.denied t.granted before r after
+      → WritesGraph g before r after
+  graph_written l (solved _ acc c) w = result_written acc c w
+
+  pub graph_unwritten : {s t : Slices} {r : Refusal} {before : List ℕ} → solve.Long g s → Solves g s (Err r) t → WritesGraph g before (Err r) before
+  graph_unwritten l (solve.refused f) = no_graph (Judges.refused (graph_refused l f))
 
   -- more nodes or edges than a graph may have
   pub too_large : {before : List ℕ} → (Ranges g.size → ⊥) → WritesGraph g before (Err why.Shape) before

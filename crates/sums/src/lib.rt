@@ -57,6 +57,8 @@ impl Sums<'_> {
             && n <= nodes.grants.len()
     }
 
+    // The solver's `store_nodes` is of this shape, and writes other slices from other numbers: one function of both would take a closure for
+    // each number and what it asks of the slices, and be longer than the two.
     fn begin_all(&mut self, system: System, k: usize, n: usize, nodes: &LentNodes)
         requires { Room n (nodes_lent nodes.now) self.old.ins.now self.old.past.now }
         ensures begun { BegunAll (system_of system) k n (nodes_lent nodes.now) self.old.ins.now self.old.past.now self.new.ins.now self.new.past.now }

@@ -4,7 +4,7 @@ use Rattle.std.proofs.Common.{arith}
 use Rattle.std.proofs.Math.ListN.{length-replicate, get_or-replicate}
 use Rattle.graph.specs.Graph.{System, PerNode}
 use Rattle.worklist.specs.Worklist.Stack.{fills_all}
-use Rattle.flow.proofs.Walk.Taken.{walk_begins, rested}
+use Rattle.flow.proofs.Walk.Taken.{walk_begins}
 use Rattle.sums.specs.Sums.{Begins, begun, kept}
 use Rattle.sums.specs.Sums.Laws.{begins_begun}
 use Rattle.solver.proofs.settle.Goals as goal

@@ -79,7 +79,7 @@ returns c =
     let k = (goal.at.returns c).After-spread in
     let s = c.settle-2.ensures.settled in
     let by_sure : Settled (lent c.args.graph.now) sure c.spread.new.out c.settle.new.sums.past.now c.settle-2.new.sums.ins.now c.settle-2.new.sums.past.now c.spread-2.new.out =
-        record { setting = sure_setting k; good = s.good; quiet = s.quiet; stored = c.spread-2.ensures } in
+    record { setting = sure_setting k; good = s.good; quiet = s.quiet; stored = c.spread-2.ensures } in
     let o = c.store_nodes.ensures in
     let long = c.requires.long in
     rw (o.may, o.sure) (walked_content _ _ _ _ _ _ _ _ _ _ _ (may_settled k) by_sure o.nodes (o.denied_long ∙ long.denied_long) (o.granted_long ∙ long.granted_long) (c.spread.auto.out ∙ long.may_long) (c.spread-2.auto.out ∙ long.sure_long))

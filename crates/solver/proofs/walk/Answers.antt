@@ -1,4 +1,4 @@
-use Rattle.std.specs.Prelude.{◌≡◌, ℕ, ◌≤◌, ◌<◌, List, length, get_or, Some, None}
+use Rattle.std.specs.Prelude.{◌≡◌, ℕ, ◌≤◌, ◌<◌, List, get_or, Some, None}
 use Rattle.std.proofs.Common.{arith}
 use Rattle.graph.specs.Lent.{lent}
 use Rattle.worklist.specs.Worklist.{Takes, taken, untaken}
@@ -14,8 +14,7 @@ use Rattle.solver.proofs.walk.Goals as goal
 low : (x : Ground) (s q : List ℕ) {d st d₁ st₁ : List ℕ} {top top₁ i : ℕ} → Walkable x → Walks x (state s q d st top) → Takes d st top (Some i) d₁ st₁ top₁
     → (i < x.graph.size.n) × (get_or x.lists.now.head.now i 0 ≤ x.graph.size.m)
 low x s q w h (taken {t} e k) =
-    let edges = w.setting.acc.shape.edges in
-    (
+    let edges = w.setting.acc.shape.edges in (
       top_low (lent x.graph) _ _ _ _ _ w.setting w.linked _ t e h,
       omega (arith, first_low (lent x.graph) _ _ _ _ _ w.setting w.linked _ t e h, edges.tos),
     )

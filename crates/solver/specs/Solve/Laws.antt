@@ -7,7 +7,7 @@ use Rattle.graph.specs.Refusals.{Numbered}
 use Rattle.graph.specs.Refusals.Laws.{numbered_one}
 use Rattle.graph.specs.Judge.Laws.{refuses_one, refuses_not}
 use Rattle.graph.specs.Refusals.{Judged}
-use Rattle.std.specs.Prelude.{Ok, Err}
+use Rattle.std.specs.Prelude.{Err}
 use Rattle.solver.specs.Solve.{Long, SolveRefuses, results, graph, Solves, refused, solved}
 
 module _ (g : Graph) (s : Slices) where

@@ -7,6 +7,6 @@ pub returns : goal.returns
 unfolding judged_num
 returns c =
     elim c.match-self.branch [
-      in-May w ↦ rw w.in-May.is (rw w.in-May.is at c.counts.ensures)
+      | in-May w ↦ rw w.in-May.is (rw w.in-May.is at c.counts.ensures)
       | in-Sure w ↦ rw w.wide-is at c.counts.ensures
     ]

@@ -1,7 +1,7 @@
 -- What a field of each form says, and how a field goes on in its row.
 use Rattle.std.specs.Prelude.{ℕ, ◌<◌, ◌≡◌, List, length, get_or, eqb, Option, Some, None, option_map, option_and_then}
-use Rattle.std.proofs.Math.Path.{refl, ap}
-use Rattle.std.proofs.Common.{arith}
+use Rattle.std.proofs.Math.Path.{refl, ap, sym}
+use Rattle.std.proofs.Common.{◌∙◌, arith}
 use borrow.Author.Tests.{eq-eqb, ne_eqb}
 use Rattle.std.proofs.lemmas.Option.{none-some, same_Some}
 use Rattle.truth.specs.Truth.Bools.{by_split}
@@ -10,19 +10,40 @@ use Rattle.scan.specs.Scan.Numbers.{number_small}
 use Rattle.scan.specs.declared.At.{At}
 use Rattle.lex.specs.declared.Part.{Part}
 use Rattle.lex.specs.declared.Mark.{Mark}
-use Rattle.lex.specs.Lex.{before_at}
+use Rattle.lex.specs.Lex.{before_at, comma_at, last_at}
 use Rattle.fields.specs.declared.Form.{Form}
-use Rattle.fields.specs.declared.Form.TheVariants.{Number, Own, Kind, Check, Marks, Way}
-use Rattle.fields.specs.Fields.{letter_of, empty_of, says, said_by, said_at}
+use Rattle.fields.specs.declared.Form.TheVariants.{Tag, Number, Own, Kind, Check, Marks, Way, Empty}
+use Rattle.fields.specs.Fields.{letter_of, empty_of, says, said_by, said_at, form_at, end_at}
 
 module _ (l : List ℕ) where
+  pub tag_yes : (b : ℕ) → letter_of l ≡ b → says (Tag b) l ≡ Some 0
+  unfolding says
+  tag_yes b e = simp (eq-eqb _ _ e)
+
+  pub tag_no : (b : ℕ) → (letter_of l ≡ b → ⊥) → says (Tag b) l ≡ None
+  unfolding says
+  tag_no b e = simp (ne_eqb _ _ e)
+
+  module _ (i : ℕ) where
+    pub own_not : number_of 4 l ≡ None → says (Own i) l ≡ None
+    unfolding says
+    own_not e = simp e
+
+    pub own_yes : {v : ℕ} → number_of 4 l ≡ Some v → v ≡ i → says (Own i) l ≡ Some v
+    unfolding says
+    own_yes e f = simp (e, eq-eqb _ _ f)
+
+    pub own_other : {v : ℕ} → number_of 4 l ≡ Some v → (v ≡ i → ⊥) → says (Own i) l ≡ None
+    unfolding says
+    own_other e f = simp (e, ne_eqb _ _ f)
+
   pub number_says : says Number l ≡ number_of 4 l
   unfolding says
   number_says = refl
 
-  pub own_yes : (i : ℕ) {v : ℕ} → number_of 4 l ≡ Some v → v ≡ i → says (Own i) l ≡ Some v
+  pub empty_says : says Empty l ≡ empty_of l
   unfolding says
-  own_yes i e f = simp (e, eq-eqb _ _ f)
+  empty_says = refl
 
   module _ (kind : ℕ) where
     pub check_there : kind ≡ 2 → says (Check kind) l ≡ number_of 4 l
@@ -32,6 +53,66 @@ module _ (l : List ℕ) where
     pub check_none : (kind ≡ 2 → ⊥) → says (Check kind) l ≡ empty_of l
     unfolding says
     check_none e = simp (ne_eqb _ _ e)
+
+  module _ (b : ℕ) (e : b ≡ letter_of l) where
+    pub kind_call : b ≡ 67 → says Kind l ≡ Some 0
+    unfolding says
+    kind_call f = simp (sym e ∙ f)
+
+    pub kind_return : b ≡ 82 → says Kind l ≡ Some 1
+    unfolding says
+    kind_return f = simp (sym e ∙ f)
+
+    pub kind_check : b ≡ 75 → says Kind l ≡ Some 2
+    unfolding says
+    kind_check f = simp (sym e ∙ f)
+
+    pub kind_none : (b ≡ 67 → ⊥) → (b ≡ 82 → ⊥) → (b ≡ 75 → ⊥) → says Kind l ≡ None
+    unfolding says
+    kind_none f g h = rw (← e) (simp (ne_eqb _ _ f, ne_eqb _ _ g, ne_eqb _ _ h))
+
+    pub way_call : b ≡ 67 → says Way l ≡ Some 0
+    unfolding says
+    way_call f = simp (sym e ∙ f)
+
+    pub way_transfer : b ≡ 84 → says Way l ≡ Some 1
+    unfolding says
+    way_transfer f = simp (sym e ∙ f)
+
+    pub way_none : (b ≡ 67 → ⊥) → (b ≡ 84 → ⊥) → says Way l ≡ None
+    unfolding says
+    way_none f g = rw (← e) (simp (ne_eqb _ _ f, ne_eqb _ _ g))
+
+  pub marks_empty : length l ≡ 0 → says Marks l ≡ Some 0
+  unfolding says
+  marks_empty h = simp (eq-eqb _ _ h)
+
+  module _ (d : length l ≡ 0 → ⊥) (b : ℕ) (e : b ≡ letter_of l) where
+    pub marks_p : b ≡ 80 → says Marks l ≡ Some 1
+    unfolding says
+    marks_p f = simp (ne_eqb _ _ d, sym e ∙ f)
+
+    pub marks_e : b ≡ 69 → says Marks l ≡ Some 2
+    unfolding says
+    marks_e f = simp (ne_eqb _ _ d, sym e ∙ f)
+
+    module _ (p : b ≡ 80 → ⊥) (q : b ≡ 69 → ⊥) where
+      pub marks_long : (length l ≡ 2 → ⊥) → says Marks l ≡ None
+      unfolding says
+      marks_long f = rw (← e) (simp (ne_eqb _ _ d, ne_eqb _ _ p, ne_eqb _ _ q, ne_eqb _ _ f))
+
+      module _ (t : length l ≡ 2) where
+        pub marks_first : (get_or l 0 0 ≡ 80 → ⊥) → says Marks l ≡ None
+        unfolding says
+        marks_first f = rw (← e) (simp (ne_eqb _ _ d, ne_eqb _ _ p, ne_eqb _ _ q, eq-eqb _ _ t, ne_eqb _ _ f))
+
+        pub marks_second : get_or l 0 0 ≡ 80 → (get_or l 1 0 ≡ 69 → ⊥) → says Marks l ≡ None
+        unfolding says
+        marks_second f g = rw (← e) (simp (ne_eqb _ _ d, ne_eqb _ _ p, ne_eqb _ _ q, eq-eqb _ _ t, eq-eqb _ _ f, ne_eqb _ _ g))
+
+        pub marks_both : get_or l 0 0 ≡ 80 → get_or l 1 0 ≡ 69 → says Marks l ≡ Some 3
+        unfolding says
+        marks_both f g = rw (← e) (simp (ne_eqb _ _ d, ne_eqb _ _ p, ne_eqb _ _ q, eq-eqb _ _ t, eq-eqb _ _ f, eq-eqb _ _ g))
 
 -- ---- how large a number a form gives
 
@@ -74,6 +155,15 @@ said_below way l e =
     (λ t. by_split (eqb (letter_of l) 84) (λ u. let z = is (simp (t, u) at e) in omega (arith, z)) (λ u. never (simp (t, u) at e)))
 
 -- ---- a field in its row
+
+module _ (form : Form) (s : List ℕ) (at : ℕ) where
+  pub form_said : {x : Option Part} → x ≡ comma_at s at → option_and_then (said_by form s) x ≡ form_at form s at
+  unfolding said_at
+  form_said e = ap (option_and_then (said_by form s)) e
+
+  pub end_said : {x : Option Part} → x ≡ last_at s at → option_and_then (said_by form s) x ≡ end_at form s at
+  unfolding said_at
+  end_said e = ap (option_and_then (said_by form s)) e
 
 pub form_below : {form : Form} {most : ℕ} → Below form most → (m : Mark) (s : List ℕ) (at : ℕ) {x : At ℕ} → said_at form m s at ≡ Some x → x.value < most
 unfolding said_at

@@ -1,6 +1,7 @@
 -- One answer and one content of what is handed over, and what slices hold that were written to.
-use Rattle.std.specs.Prelude.{ℕ, ◌≤◌, ◌≡◌, refl, List, Bool, eqb, length, take}
+use Rattle.std.specs.Prelude.{ℕ, ◌-◌, ◌≤◌, ◌≡◌, refl, List, Bool, eqb, length, take, drop}
 use Rattle.std.proofs.Common.{sym, ap, ◌∙◌, subst, arith}
+use Rattle.std.proofs.Math.Nat.{sub-zero}
 use Rattle.std.proofs.lemmas.List.Edits.{sets}
 use Rattle.std.proofs.Math.Seq.{length-sets}
 use Rattle.truth.specs.Truth.{Says}
@@ -21,6 +22,15 @@ use Rattle.handover.specs.Handover.{Lent, Room, roomy, held_graph, NodesWritten,
 pub room_says : (x : Lent) {a : PerNode ℕ} {b : PerEdge ℕ} {r : Bool} → a ≡ map_node length x.nodes → b ≡ map_edge length x.edges → Says (Ample a b) r → Says (Room x) r
 room_says x {a} {b} {r} e f s =
     says_same (subst (λ y. Says (Ample (map_node length x.nodes) y) r) f (subst (λ y. Says (Ample y b) r) e s)) (λ h. record { nodes = h.0; edges = h.1 }) (λ k. (k.nodes, k.edges))
+
+-- the first places of each slice, as the check is lent them
+pub judged_held : (x : Lent) (c : Size) {j : Judged}
+    → Judges (record { size = c; nodes = map_node (λ l. take (c.n - 0) (drop 0 l)) x.nodes; edges = map_edge (λ l. take (c.m - 0) (drop 0 l)) x.edges }) j
+    → Judges (held_graph c x) j
+judged_held x c h = rw (sub-zero c.n, sub-zero c.m) at h
+
+pub held_by : {c : Size} {held : Lent} {i j : Judged} → i ≡ j → HeldJudged c held i → HeldJudged c held j
+held_by {c} {held} e h = subst (HeldJudged c held) e h
 
 pub held_judges : {c : Size} {held : Lent} {j : Judged} → Room held → HeldJudged c held j → Judges (held_graph c held) j
 held_judges r (bare d) = absurd (d r)

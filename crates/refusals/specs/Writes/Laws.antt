@@ -7,7 +7,7 @@ use Rattle.graph.specs.declared.Refusal.{Refusal}
 use Rattle.graph.specs.declared.Refusal.TheVariants as why
 use Rattle.writer.specs.Writer.{last_place, Puts, Adds}
 use Rattle.writer.specs.declared.Writer.{Writer}
-use Rattle.writer.specs.Writer.Places.{adds_count}
+use Rattle.writer.specs.Writer.Places.{puts_count, adds_count}
 use Rattle.writer.specs.Writer.Numbers.{decimal_short}
 use Rattle.graph.specs.Refusals.{Written}
 use Rattle.std.specs.Prelude.{Ok, Err}
@@ -20,6 +20,13 @@ module _ {bytes before : List ℕ} {count : ℕ} (e : count ≡ length bytes) wh
   pub writes_all : {r : ℕ} {after : List ℕ} → count ≤ length before → Puts bytes before 0 r after → Writes bytes before (Ok count) after
   writes_all {r} {after} h p =
       subst (λ (l : List ℕ). Writes bytes before (Ok count) l) (sym p.content) (subst (λ (n : ℕ). Writes bytes before (Ok n) (sets before 0 bytes)) (sym e) (written (omega (arith, e, h))))
+
+-- bytes that were written to a buffer with room for more
+pub writes_close : {bytes before after : List ℕ} {r most : ℕ} → Puts bytes before 0 r after → most ≤ length before → length bytes ≤ most → most ≤ last_place → Writes bytes before (Ok r) after
+writes_close p h k l = let e = puts_count p (omega (arith, k, l)) in writes_all e (omega (arith, e, h, k)) p
+
+pub refusal_is : {number place : ℕ} (r : Refusal) → number ≡ (numbered r).number → place ≡ (numbered r).place → refusal_row number place ≡ refusal_bytes r
+refusal_is {number} {place} r a b = ap (λ n. refusal_row n place) a ∙ ap (refusal_row (numbered r).number) b
 
 -- a writer that began at the start of a buffer, with room for what it added
 pub writes_added : {bytes after : List ℕ} {u v : Writer} → Adds bytes u v → u.at ≡ 0 → after ≡ v.out.now → length bytes ≤ length u.out.now → length u.out.now ≤ last_place → Writes bytes u.out.now (Ok v.at) after

@@ -63,6 +63,21 @@ number_more (b ∷ w) {v} {d} e z m h =
     number_digits 4 (b ∷ (w ++ (d + 48) ∷ [])) (λ p. omega (arith, p)) (omega (arith, l)) (omega (arith, l)) (eqb-false b 48 t)
     ∙ digits_more (b ∷ w) _ 0 (sym (number_digits 4 (b ∷ w) some (omega arith) (omega arith) (eqb-false b 48 t)) ∙ e) ∙ digit_last v h refl)
 
+module _ {a : ℕ} (h : a ≤ 9) where
+  pub number_1 : number_of 4 ((a + 48) ∷ []) ≡ Some a
+  number_1 = number_one h
+
+  module _ (p : 0 < a) {b : ℕ} (i : b ≤ 9) where
+    pub number_2 : number_of 4 ((a + 48) ∷ (b + 48) ∷ []) ≡ Some (a * 10 + b)
+    number_2 = number_more ((a + 48) ∷ []) number_1 p (omega arith) i
+
+    module _ {c : ℕ} (j : c ≤ 9) where
+      pub number_3 : number_of 4 ((a + 48) ∷ (b + 48) ∷ (c + 48) ∷ []) ≡ Some (a * 100 + b * 10 + c)
+      number_3 = number_more ((a + 48) ∷ (b + 48) ∷ []) number_2 (omega (arith, p)) (omega arith) j ∙ ap Some (omega arith)
+
+      pub number_4 : {d : ℕ} → d ≤ 9 → number_of 4 ((a + 48) ∷ (b + 48) ∷ (c + 48) ∷ (d + 48) ∷ []) ≡ Some (a * 1000 + b * 100 + c * 10 + d)
+      number_4 k = number_more ((a + 48) ∷ (b + 48) ∷ (c + 48) ∷ []) number_3 (omega (arith, p)) (omega arith) k ∙ ap Some (omega arith)
+
 pub digital_more : {s : List ℕ} {at e p d : ℕ} {w : List ℕ} → Digital s at w e → p ≡ e + 1 → get_or s e 0 ≡ d + 48 → d ≤ 9 → Digital s at (w ++ (d + 48) ∷ []) p
 digital_more end j q h = digit j q h end
 digital_more (digit i p k r) j q h = digit i p k (digital_more r j q h)

@@ -7,7 +7,7 @@ use Rattle.std.proofs.lemmas.Bool.{and_parts}
 use native.Mathlib.Omega.{arith}
 use Rattle.std.proofs.Math.ListN.{get_or}
 use Rattle.std.proofs.Math.Seq.{drop-cons}
-use borrow.Author.Tests.{le-ltb, eq-eqb, ne_eqb, leb-true, ltb-false}
+use borrow.Author.Tests.{le-leb, lt-leb, lt-ltb, le-ltb, eq-eqb, ne_eqb, leb-true, ltb-false}
 use Rattle.truth.specs.Truth.Bools.{by_split}
 use Rattle.scan.specs.Scan.{digits_from, number_of}
 
@@ -19,6 +19,14 @@ module _ (v : ℕ) (l : List ℕ) (i : ℕ) where
   pub digits_not : i < length l → is_ascii_digit (get_or l i 0) ≡ false → digits_from v (drop i l) ≡ None
   unfolding digits_from
   digits_not h d = rw (drop-cons l i 0) (simp d)
+
+  pub digits_low : i < length l → get_or l i 0 < 48 → digits_from v (drop i l) ≡ None
+  digits_low h lo = digits_not h (simp (lt-leb _ _ lo))
+
+  pub digits_high : i < length l → 57 < get_or l i 0 → digits_from v (drop i l) ≡ None
+  digits_high h hi =
+      let lo : 48 ≤ get_or l i 0 = omega arith in
+      digits_not h (simp (le-leb _ _ lo, lt-leb _ _ hi))
 
   pub digits_out : length l ≤ i → digits_from v (drop i l) ≡ Some v
   unfolding digits_from
@@ -39,18 +47,27 @@ module _ (most : ℕ) (l : List ℕ) where
   number_none h = simp h
 
   module _ (p : length l ≡ 0 → ⊥) where
-    module _ (o : length l ≤ most) (q : length l ≤ 18) where
-      pub number_zero : get_or l 0 0 ≡ 48 → length l ≡ 1 → number_of most l ≡ Some 0
-      unfolding number_of
-      number_zero z h = simp (ne_eqb _ _ p, le-ltb _ _ o, le-ltb _ _ q, z, eq-eqb _ _ h)
+    pub number_long : most < length l → number_of most l ≡ None
+    unfolding number_of
+    number_long h = simp (ne_eqb _ _ p, lt-ltb _ _ h)
 
-      pub number_needless : get_or l 0 0 ≡ 48 → (length l ≡ 1 → ⊥) → number_of most l ≡ None
+    module _ (o : length l ≤ most) where
+      pub number_longest : 18 < length l → number_of most l ≡ None
       unfolding number_of
-      number_needless z h = simp (ne_eqb _ _ p, le-ltb _ _ o, le-ltb _ _ q, z, ne_eqb _ _ h)
+      number_longest h = simp (ne_eqb _ _ p, le-ltb _ _ o, lt-ltb _ _ h)
 
-      pub number_digits : (get_or l 0 0 ≡ 48 → ⊥) → number_of most l ≡ digits_from 0 l
-      unfolding number_of
-      number_digits z = simp (ne_eqb _ _ p, le-ltb _ _ o, le-ltb _ _ q, ne_eqb _ _ z)
+      module _ (q : length l ≤ 18) where
+        pub number_zero : get_or l 0 0 ≡ 48 → length l ≡ 1 → number_of most l ≡ Some 0
+        unfolding number_of
+        number_zero z h = simp (ne_eqb _ _ p, le-ltb _ _ o, le-ltb _ _ q, z, eq-eqb _ _ h)
+
+        pub number_needless : get_or l 0 0 ≡ 48 → (length l ≡ 1 → ⊥) → number_of most l ≡ None
+        unfolding number_of
+        number_needless z h = simp (ne_eqb _ _ p, le-ltb _ _ o, le-ltb _ _ q, z, ne_eqb _ _ h)
+
+        pub number_digits : (get_or l 0 0 ≡ 48 → ⊥) → number_of most l ≡ digits_from 0 l
+        unfolding number_of
+        number_digits z = simp (ne_eqb _ _ p, le-ltb _ _ o, le-ltb _ _ q, ne_eqb _ _ z)
 
 pub digit_most : (b : ℕ) → is_ascii_digit b ≡ true → b ≤ 57
 digit_most b d = leb-true b 57 (and_parts _ _ d).1

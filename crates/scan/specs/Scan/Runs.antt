@@ -1,14 +1,18 @@
 -- How runs go on from one position of a text to the next.
-use Rattle.std.specs.Prelude.{ℕ, zero, suc, ◌+◌, ◌-◌, ◌≤◌, ◌<◌, ◌≡◌, true, false, List, [], ◌∷◌, length, get_or, drop}
-use Rattle.std.proofs.Common.{suc-le-suc, ap, add-one, arith, length-drop, ne_eqb}
+use Rattle.std.specs.Prelude.{ℕ, zero, suc, ◌+◌, ◌-◌, ◌≤◌, ◌<◌, ◌≡◌, true, false, not, List, [], ◌∷◌, length, get_or, drop, eqb}
+use Rattle.std.proofs.Common.{suc-le-suc, ap, ◌∙◌, add-one, arith, length-drop, drop_of_length-le, ne_eqb}
 use Rattle.std.proofs.Math.Seq.{drop-cons, take_all}
 use Rattle.std.proofs.lemmas.List.Sums.{prefix_len-le-length}
 use Rattle.scan.specs.declared.Class.{Class}
 use Rattle.scan.specs.declared.Class.TheVariants.{Plain}
 use Rattle.scan.specs.Scan.{belongs, run, part_of}
 
+module _ (b : ℕ) (p : b ≡ 34 → ⊥) (q : b ≡ 44 → ⊥) (r : b ≡ 13 → ⊥) where
+  pub plain_last : belongs Plain b ≡ not (eqb b 10)
+  plain_last = simp (ne_eqb b _ p, ne_eqb b _ q, ne_eqb b _ r)
+
 pub plain_above : (b : ℕ) → 44 < b → belongs Plain b ≡ true
-plain_above b h = simp (ne_eqb b 34 (λ e. omega (arith, e)), ne_eqb b 44 (λ e. omega (arith, e)), ne_eqb b 13 (λ e. omega (arith, e)), ne_eqb b 10 (λ e. omega (arith, e)))
+plain_above b h = plain_last b (λ e. omega (arith, e)) (λ e. omega (arith, e)) (λ e. omega (arith, e)) ∙ ap not (ne_eqb b 10 (λ e. omega (arith, e)))
 
 module _ (c : Class) (l : List ℕ) (i : ℕ) where
   pub run_step : i < length l → belongs c (get_or l i 0) ≡ true → run c (drop i l) ≡ 1 + run c (drop (i + 1) l)
@@ -18,6 +22,10 @@ module _ (c : Class) (l : List ℕ) (i : ℕ) where
   pub run_stop : i < length l → belongs c (get_or l i 0) ≡ false → run c (drop i l) ≡ 0
   unfolding run
   run_stop h m = rw (drop-cons l i 0) (simp m)
+
+  pub run_out : length l ≤ i → run c (drop i l) ≡ 0
+  unfolding run
+  run_out h = rw (drop_of_length-le l)
 
 pub run_counted : (c : Class) (s : List ℕ) (i : ℕ) → run c (part_of s i (length s)) ≡ run c (drop i s)
 run_counted c s i = ap (run c) (take_all (length s - i) (drop i s) (omega (arith, length-drop i s)))

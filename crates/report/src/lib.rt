@@ -29,7 +29,9 @@ pub fn write_graph(out: &mut [u8], graph: &LentGraph) -> Result<usize, Refusal>
     };
     solver::solve(graph, &mut into)?;
     let SetPlaces {
-        denied, granted, ..
+        denied,
+        granted,
+        ..
     } = into;
     let sets = LentSets { denied, granted };
     rows::write_result(out, n, graph.nodes.kinds, graph.nodes.checks, &sets)

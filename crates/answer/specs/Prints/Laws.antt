@@ -1,5 +1,5 @@
 -- One output for every text, and never too long; how an answer follows from those of the calls that are made for it.
-use Rattle.std.specs.Prelude.{ℕ, suc, ◌≤◌, ◌<◌, ◌≡◌, refl, List, length, take, replicate}
+use Rattle.std.specs.Prelude.{ℕ, suc, ◌-◌, ◌≤◌, ◌<◌, ◌≡◌, refl, List, length, take, drop, replicate}
 use Rattle.std.proofs.Common.{sym, ap, ◌∙◌, subst, arith, lt-ltb}
 use Rattle.std.proofs.Math.Nat.{sub-zero}
 use Rattle.std.proofs.lemmas.List.Edits.{sets}
@@ -20,7 +20,6 @@ use Rattle.handover.specs.Handover.{Lent, Room, roomy, held_graph}
 use Rattle.handover.specs.Handover.Laws.{room?}
 use Rattle.text.specs.Text.{Outcome, outcome_from, outcome, reading_from, reading, read, node_columns, graph_from, Stores, Tells, stored, refuses}
 use Rattle.text.specs.Text as text
-use Rattle.text.specs.Text.Parts.{Places}
 use Rattle.text.specs.Text.Laws.{reading_roomy, outcome_accepted, stores_room, stored_held, reads_one}
 use Rattle.graph.specs.Refusals.{Written}
 use Rattle.refusals.specs.Writes.{Writes, written, too_short, refusal_bytes, refusal_row}
@@ -30,7 +29,7 @@ use Rattle.rows.specs.Result.Rows.{result_short}
 use Rattle.report.specs.Report.{rows_of, WritesGraph}
 use Rattle.report.specs.Report.Laws.{rows_only}
 use Rattle.answer.specs.Prints.{PrintsFor, refused, printed, Prints, AnswersFor, Answers, ReadsAnswers}
-use Rattle.answer.specs.Prints.Parts.{first, lent_graph, Held, WritesRead, graph_read, nothing_read}
+use Rattle.answer.specs.Prints.Parts.{Places, Held, WritesRead, graph_read, nothing_read}
 
 -- ---- one output
 
@@ -93,7 +92,10 @@ answers_low a = writes_low a.writes
 pub answers_fit : (s : List ℕ) {before after : List ℕ} {r : Refusal} → Answers s before (Err r) after → 440000 ≤ length before → ⊥
 answers_fit s a h = writes_not a.writes (omega (arith, prints_short s a.prints, h))
 
--- and it is that
+-- and it is that, as a slice of its first places
+abbrev first : ℕ → List ℕ → List ℕ
+first n l = take (n - 0) (drop 0 l)
+
 writes_part : {bytes before after : List ℕ} {n : ℕ} → Writes bytes before (Ok n) after → first n after ≡ bytes
 writes_part {bytes} {before} (written h) = ap (λ i. take i (sets before 0 bytes)) (sub-zero (length bytes)) ∙ take_sets before bytes h
 
@@ -132,11 +134,7 @@ read_room : (x : Lent) (s : List ℕ) {k : ℕ} {ns : List Node} {es : List Edge
 unfolding reading_from
 read_room x s e = by_split (roomy x) (λ t. says_true (room? x) t) (λ t. absurd (never_both (rw t at e)))
 
--- the first places of slices, as they are lent
-same_graph : (c : Size) (x : Lent) → lent_graph c x ≡ held_graph c x
-same_graph c x = rw (sub-zero c.n, sub-zero c.m) refl
-
-places_as : {y : Lent} {c d : Size} → Ok d ≡ Ok c → Places d y → Places c y
+places_as : {y : Lent} {c d : Size} → ◌≡◌ {A = Reading} (Ok d) (Ok c) → Places d y → Places c y
 places_as {y} {c} {d} e p = let u : d ≡ c = cc in subst (λ i. Places i y) u p
 
 module _ {x y : Lent} (s : List ℕ) where
@@ -148,8 +146,8 @@ module _ {x y : Lent} (s : List ℕ) where
     acceptable : Acceptable (graph_from k ns es)
     acceptable = outcome_accepted s 0 1 (sym (reading_roomy x s 0 1 room) ∙ e)
 
-    lent_is : lent_graph (size_of k (length ns) (length es)) y ≡ graph_from k ns es
-    lent_is = same_graph (size_of k (length ns) (length es)) y ∙ stored_held k ns es room h acceptable.shape.ranges.n_high acceptable.shape.ranges.m_high
+    lent_is : held_graph (size_of k (length ns) (length es)) y ≡ graph_from k ns es
+    lent_is = stored_held k ns es room h acceptable.shape.ranges.n_high acceptable.shape.ranges.m_high
 
     places : Places (size_of k (length ns) (length es)) y
     places =
@@ -163,7 +161,7 @@ module _ {x y : Lent} (s : List ℕ) where
           edges = record { froms = omega (arith, m, r.edges.froms); tos = omega (arith, m, r.edges.tos); ways = omega (arith, m, r.edges.ways) };
         }
 
-    graph_answers : {b c : List ℕ} {r : Written} → WritesGraph (lent_graph (size_of k (length ns) (length es)) y) b r c → AnswersFor (reading x s) b r c
+    graph_answers : {b c : List ℕ} {r : Written} → WritesGraph (held_graph (size_of k (length ns) (length es)) y) b r c → AnswersFor (reading x s) b r c
     graph_answers {b} {c} {r} w =
         let v = rows_only (graph_from k ns es) acceptable (subst (λ (g : Graph). WritesGraph g b r c) lent_is w) in
         record { bytes = rows_of (graph_from k ns es) v.0; prints = printed e v.1; writes = v.2 }

@@ -1,6 +1,7 @@
 -- The parts of a step: where it writes, and what an inspection's answer says of the check on top.
-use Rattle.std.specs.Prelude.{ℕ, ◌<◌, ◌≡◌, refl, List, Bool, Option, Some, None, true, false, get_or}
+use Rattle.std.specs.Prelude.{ℕ, ◌<◌, ◌≤◌, ◌≡◌, refl, List, Bool, Option, Some, None, true, false, get_or}
 use Rattle.std.specs.Bool.{then_some}
+use Rattle.std.proofs.Common.{arith}
 use Rattle.graph.specs.Graph.{Graph, Leads}
 use Rattle.stacks.specs.Machine.{Inspected}
 use Rattle.machine.specs.declared.Inspection.TheVariants as inspection
@@ -36,6 +37,13 @@ module _ (g : Graph) {stack : List ℕ} {height next : ℕ} where
 
   pub none_found : Placed g stack height next None → (p : ℕ) → RuleOf g stack height next p → ⊥
   none_found (nowhere d) = d
+
+  -- a rule writes at the height or below it
+  pub place_low : {place : ℕ} → RuleOf g stack height next place → place ≤ height
+  place_low (Rule.enter e t) = omega arith
+  place_low (Rule.call h k j) = omega arith
+  place_low (Rule.pass h k j) = omega arith
+  place_low (Rule.back h k j) = omega arith
 
 -- ---- what an inspection's answer says
 

@@ -8,7 +8,8 @@ use Rattle.stacks.specs.Machine.{stack_of, Step, Reachable}
 use Rattle.stacks.specs.Machine.Slices.{bare, height_of}
 use Rattle.frames.specs.Frames.{Frame, StackFits}
 use Rattle.std.specs.Prelude.{Ok}
-use Rattle.machine.specs.Steps.{Rule, RuleOf, Steps}
+use Rattle.machine.specs.Steps.{Steps}
+use Rattle.machine.specs.Steps.Parts.{place_low}
 use Rattle.machine.specs.Steps.Sound.{step_reaches, step_complete, step_takes}
 
 module _ (g : Graph) (slice : List ℕ) where
@@ -50,12 +51,6 @@ module _ (g : Graph) (acc : Acceptable g) where
   step_low (Step.pass c f j) = end_low j
   step_low (Step.back k j) = end_low j
 
-  place_low : {stack : List ℕ} {height next place : ℕ} → RuleOf g stack height next place → place ≤ height
-  place_low (Rule.enter e t) = omega arith
-  place_low (Rule.call h k j) = omega arith
-  place_low (Rule.pass h k j) = omega arith
-  place_low (Rule.back h k j) = omega arith
-
   -- the frames below a place, with one node more on them
   more_frames : (stack : List ℕ) (height next place : ℕ) → All (Frame g.size.n stack) height → place ≤ height → place < length stack → next < g.size.n
       → All (Frame g.size.n (set stack place next)) (place + 1)
@@ -89,7 +84,7 @@ module _ (g : Graph) (acc : Acceptable g) where
           fits = record {
             slice = omega (arith, length-set m.stack c.place c.next, m.fits.slice);
             held = omega (arith, length-set m.stack c.place c.next, room);
-            nodes = more_frames m.stack m.height c.next c.place m.fits.nodes (place_low c.rule) room n;
+            nodes = more_frames m.stack m.height c.next c.place m.fits.nodes (place_low g c.rule) room n;
           };
         }
 

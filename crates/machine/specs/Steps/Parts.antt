@@ -3,10 +3,11 @@ use Rattle.std.specs.Prelude.{ℕ, ◌<◌, ◌≤◌, ◌≡◌, refl, List, Bo
 use Rattle.std.specs.Bool.{then_some}
 use Rattle.std.proofs.Common.{arith}
 use Rattle.graph.specs.Graph.{Graph, Leads}
+use Rattle.graph.specs.Refusals.{◌at◌}
 use Rattle.stacks.specs.Machine.{Inspected}
 use Rattle.machine.specs.declared.Inspection.TheVariants as inspection
-use Rattle.machine.specs.Inspect.{SaysSo, passes, fails}
-use Rattle.machine.specs.Steps.{top, lower, Rule, RuleOf}
+use Rattle.machine.specs.Inspect.{SaysSo, passes, fails, Asks}
+use Rattle.machine.specs.Steps.{top, lower, Rule, RuleOf, StepRefuses}
 
 -- ---- where a step writes
 
@@ -44,6 +45,22 @@ module _ (g : Graph) {stack : List ℕ} {height next : ℕ} where
   place_low (Rule.call h k j) = omega arith
   place_low (Rule.pass h k j) = omega arith
   place_low (Rule.back h k j) = omega arith
+
+module _ {g : Graph} {stack : List ℕ} {height next : ℕ} where
+  -- no rule leads to the next node
+  pub no_place : (height ≡ 0 → get_or g.nodes.entries next 0 ≡ 1 → ⊥)
+      → (0 < height → get_or g.nodes.kinds (top stack height) 0 ≡ 0 → Leads g 0 (top stack height) next → ⊥)
+      → (0 < height → get_or g.nodes.kinds (top stack height) 0 ≡ 2 → Leads g 1 (top stack height) next → ⊥)
+      → (1 < height → get_or g.nodes.kinds (top stack height) 0 ≡ 1 → Leads g 1 (lower stack height) next → ⊥)
+      → Placed g stack height next None
+  no_place e c p b = nowhere (no_rule g e c p b)
+
+  -- a place that is found is at most the height
+  pub placed_low : {p : ℕ} → Placed g stack height next (Some p) → p ≤ height
+  placed_low u = place_low g (found g u)
+
+pub nowhere_refuses : (g : Graph) {stack : List ℕ} {height next : ℕ} → Asks g (next < g.size.n) stack height → Placed g stack height next None → StepRefuses g stack height next (8 at 0)
+nowhere_refuses g a (nowhere d) = StepRefuses.no_rule a d
 
 -- ---- what an inspection's answer says
 

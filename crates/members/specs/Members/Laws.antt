@@ -1,14 +1,16 @@
 -- The members of a set, and numbers with one space between.
-use Rattle.std.specs.Prelude.{ℕ, zero, suc, ◌+◌, ◌-◌, ◌*◌, ◌^◌, ◌≤◌, ◌<◌, ◌≡◌, refl, List, [], ◌∷◌, ◌++◌, true, false, length, get_or, take}
+use Rattle.std.specs.Prelude.{ℕ, zero, suc, ◌+◌, ◌-◌, ◌*◌, ◌^◌, ◌≤◌, ◌<◌, ◌≡◌, refl, List, [], ◌∷◌, ◌++◌, true, false, length, get_or, take, drop}
 use Rattle.std.proofs.Common.{sym, ap, ◌∙◌, append-nil, append_assoc, add-zero, arith, length-append}
 use Rattle.std.specs.Int.Count.{count_leading_zeros}
 use Rattle.std.proofs.lemmas.Nat.{leading_length}
+use Rattle.std.proofs.Math.Nat.{sub-zero}
 use Rattle.truth.specs.Truth.Bools.{by_split}
+use Rattle.truth.specs.Truth.Kit.{take_sets}
 use Rattle.sets.specs.Sets.{has}
 use Rattle.sets.specs.Sets.Members.{has_past}
-use Rattle.writer.specs.Writer.{decimal, Adds}
+use Rattle.writer.specs.Writer.{decimal, Puts, Adds}
 use Rattle.writer.specs.declared.Writer.{Writer}
-use Rattle.writer.specs.Writer.Places.{take_more, adds_as, adds_then}
+use Rattle.writer.specs.Writer.Places.{take_more, puts_count, adds_as, adds_then}
 use Rattle.writer.specs.Writer.Numbers.{short_decimal}
 use Rattle.members.specs.Members.{members_from, after_first, spaced, set_bytes}
 
@@ -40,9 +42,9 @@ module _ (s p : ℕ) where
       let z : p ≡ 0 + p = omega arith in
       ap (λ i. members_from s 0 p ++ members_from s i 1) z ∙ members_split s 0 p 1
 
-  pub members_more : has s p ≡ true → members_from s 0 p ++ (p ∷ []) ≡ members_from s 0 (p + 1)
+  pub members_with : has s p ≡ true → members_from s 0 p ++ (p ∷ []) ≡ members_from s 0 (p + 1)
   unfolding members_from
-  members_more t = ap (λ l. members_from s 0 p ++ l) (simp t refl) ∙ next
+  members_with t = ap (λ l. members_from s 0 p ++ l) (simp t refl) ∙ next
 
   pub members_same : has s p ≡ false → members_from s 0 p ≡ members_from s 0 (p + 1)
   unfolding members_from
@@ -86,3 +88,29 @@ spaced_after (p ∷ l) = omega arith
 
 pub set_short : (set : ℕ) → length (set_bytes set) ≤ 192
 set_short set = omega (arith, spaced_after (members_from set 0 64), after_short set 0 64 (omega arith))
+
+-- ---- how many members there are, and how a list of them reads
+
+pub members_few : (s p count : ℕ) → length (members_from s p count) ≤ count
+unfolding members_from
+members_few s p zero = omega arith
+members_few s p (suc count) = by_split (has s p) (λ t. simp t (omega (arith, members_few s (p + 1) count))) (λ t. simp t (omega (arith, members_few s (p + 1) count)))
+
+-- each run of members, and the next of them
+pub members_more : (s p count : ℕ) → members_from s p count ++ members_from s (p + count) 1 ≡ members_from s p (suc count)
+members_more s p count = let e : count + 1 ≡ suc count = omega arith in members_split s p count 1 ∙ ap (members_from s p) e
+
+pub spaced_by : (l : List ℕ) → (length l ≡ 0 → ⊥) → decimal (get_or l 0 0) ++ after_first (drop 1 l) ≡ spaced l
+spaced_by [] h = absurd (h refl)
+spaced_by (p ∷ l) h = refl
+
+pub spaced_none : (l : List ℕ) → length l ≡ 0 → spaced l ≡ []
+spaced_none [] h = refl
+spaced_none (p ∷ l) h = absurd (omega arith)
+
+-- what is listed is read back
+pub listed : (set : ℕ) {r : ℕ} {l m : List ℕ} → length l ≡ 64 → Puts (members_from set 0 64) l 0 r m → (r ≤ 64) × (take (r - 0) (drop 0 m) ≡ members_from set 0 64)
+listed set {r} {l} {m} h p =
+    let v = members_from set 0 64 in
+    let e : r ≡ length v = puts_count p (omega (arith, members_few set 0 64)) in
+    (omega (arith, e, members_few set 0 64), ap (λ i. take i m) (sub-zero r ∙ e) ∙ ap (take (length v)) p.content ∙ take_sets l v (omega (arith, members_few set 0 64, h)))

@@ -13,6 +13,7 @@ use Rattle.graph.specs.Judge.{Judges, judge}
 use Rattle.graph.specs.Judge.Laws.{judge_judges, judges_judge, accepted_is}
 use Rattle.graph.specs.declared.Size.{Size}
 use Rattle.graph.specs.declared.Refusal.{Refusal}
+use Rattle.graph.specs.declared.Refusal.TheVariants as why
 use Rattle.graph.specs.Refusals.{Judged}
 use Rattle.handover.specs.Handover.{Lent, lists_lent, Room, held_graph, NodesWritten, EdgesWritten, Copied, HandsOver, cramped, refused, accepted}
 use Rattle.handover.specs.Handover.Laws.{room?, held_judges, wrote, nodes_back, edges_back, written_one, edges_written_one}
@@ -200,3 +201,29 @@ reads_one (refuses {r = r} e) (refuses {r = t} f) = (ap Err (numbered_one r t (s
   where
     same_refused : text.refused (numbered r) ≡ text.refused (numbered t) → numbered r ≡ numbered t
     same_refused q = cc
+
+-- ---- the answer by what was judged, and what is told of what was parsed
+
+abbrev pub told : Judged → Size → Reading
+told (Ok tt) c = Ok c
+told (Err r) c = Err r
+
+pub faulty_is : {x : ℕ} {before : Lent} {s : List ℕ} {from row : ℕ} {after : Lent} → Parses before s from row (Err (why.Row x)) after → text_at s from row ≡ wrong x
+faulty_is (faulty e) = e
+
+-- what was parsed into has room as before
+pub counted_room : {zeros : Lent} (s : List ℕ) (from row : ℕ) {p : Parsed} {held : Lent} {c : Size} → Parses zeros s from row p held → p ≡ Ok c → Room zeros → Room held
+counted_room {zeros} s from row {held = held} h e z = stores_room (counted_is (subst (λ (q : Parsed). Parses zeros s from row q held) e h)).so z
+
+-- the slices had room, so it is the graph that is judged
+pub handed_tells : {c : Size} {zeros held : Lent} {s : List ℕ} {from row : ℕ} (d : Said c zeros s from row held) (room : Room zeros) {before after : Lent} {j : Judged}
+    → Room held → Room before → HandsOver c held before j after → Tells (on_meaning (text_at s from row)) before (told j c) after
+handed_tells d room p q (cramped e) = absurd (e q)
+handed_tells d room p q (accepted k h w) = said_taken d room p q (accepted k h w)
+handed_tells d room p q (refused k h) = said_refused d room p q (refused k h)
+
+pub counted_tells : {before zeros : Lent} (s : List ℕ) (from row : ℕ) {p : Parsed} {held : Lent} (h : Parses zeros s from row p held) {c : Size} {after : Lent} {j : Judged} {r : Reading}
+    → p ≡ Ok c → Room zeros → Room before → HandsOver c held before j after → r ≡ told j c → Tells (on_meaning (text_at s from row)) before r after
+counted_tells {before = before} {zeros = zeros} s from row {held = held} h {after = after} e z k o f =
+    let d = counted_is (subst (λ (q : Parsed). Parses zeros s from row q held) e h) in
+    subst (λ (q : Reading). Tells (on_meaning (text_at s from row)) before q after) (sym f) (handed_tells d z (stores_room d.so z) k o)

@@ -77,3 +77,31 @@ pub adds_count : {bytes : List ℕ} {u v : Writer} → Adds bytes u v → u.at �
 adds_count a z k h =
     let p = a.puts (record { place = omega (arith, z); buffer = k }) in
     omega (arith, p.answer, z, h)
+
+-- ---- places of 64 bits, and one byte at a place
+
+pub place_past : (n : ℕ) → last_place ≤ n → place_of n ≡ last_place
+place_past n h = omega (arith, h)
+
+pub place_low : (n : ℕ) → n ≤ last_place → place_of n ≡ n
+place_low n h = omega (arith, h)
+
+pub place_le : (n : ℕ) → place_of n ≤ n
+place_le n = omega arith
+
+-- no slice reaches the largest place
+pub lent : {n : ℕ} → n < 18446744073709551616 → n ≤ last_place
+lent h = omega (arith, h)
+
+-- nor after bytes were written to it
+pub lent_after : {bytes l m : List ℕ} {i j : ℕ} → length l ≤ last_place → Puts bytes l i j m → length m ≤ last_place
+lent_after h p = omega (arith, h, puts_long p)
+
+pub puts_as : {xs ys l m : List ℕ} {i j : ℕ} → xs ≡ ys → Puts xs l i j m → Puts ys l i j m
+puts_as {l = l} {m = m} {i = i} {j = j} e p = subst (λ x. Puts x l i j m) e p
+
+pub put_past : {b i r : ℕ} {l : List ℕ} → length l ≤ i → r ≡ place_of (i + 1) → Puts (b ∷ []) l i r l
+put_past {b} {i} {r} {l} h e = record { answer = e; content = sym (set_out l i b h) }
+
+pub put_in : {b i : ℕ} {l : List ℕ} → i < length l → length l ≤ last_place → Puts (b ∷ []) l i (i + 1) (set l i b)
+put_in {i = i} h k = record { answer = sym (place_low (i + 1) (omega (arith, h, k))); content = refl }

@@ -7,8 +7,8 @@ ghost use Rattle.std.specs.Io.KnownBytes.{Appends};
 ghost use Rattle.answer.specs.Prints.{Prints, Answers};
 ghost use Rattle.verdicts.specs.Answered.{Answered};
 
+use extent::{MOST_BYTES, Slots};
 use graph::Refusal;
-use refusals::Written;
 use std::io::{Read, Write};
 use std::process::ExitCode;
 use stream::{Input, Streams};
@@ -19,29 +19,12 @@ mod stream;
 const SHORT_TEXT: usize = 8192;
 
 // What is printed for a text, at the start of the buffer, and how many bytes it is; or refusal 10 where the buffer is too short.
-fn answer_text(out: &mut [u8], text: &[u8]) -> Written
+fn answer_text(out: &mut [u8], text: &[u8]) -> Result<usize, Refusal>
     ensures { Answers text.now out.old result out.new }
 {
-    let mut kinds = [0u8; 1024];
-    let mut checks = [0u16; 1024];
-    let mut privileged = [0u8; 1024];
-    let mut entries = [0u8; 1024];
-    let mut grants = [0u64; 1024];
-    let mut froms = [0u16; 4096];
-    let mut tos = [0u16; 4096];
-    let mut ways = [0u8; 4096];
-    answer::write_answer(
-        out,
-        &mut kinds,
-        &mut checks,
-        &mut privileged,
-        &mut entries,
-        &mut grants,
-        &mut froms,
-        &mut tos,
-        &mut ways,
-        text,
-    )
+    let mut slots = Slots::new();
+    let mut into = slots.places();
+    answer::write_answer(out, &mut into, text)
 }
 
 fn send<W: Write>(streams: &mut Streams<W>, out: &[u8])
@@ -54,22 +37,6 @@ fn send<W: Write>(streams: &mut Streams<W>, out: &[u8])
     );
 }
 
-// What is written for a text is what the text prints.
-fn print<W: Write>(streams: &mut Streams<W>, text: &[u8], out: &[u8])
-    requires { Prints text.now out.now }
-    ensures { streams.new.has_complained ≡ false → Answered text.now (W.contents streams.old.output) (W.contents streams.new.output) }
-{
-    send(streams, out);
-}
-
-// The same for every text above 65,536 bytes.
-fn print_for_long<W: Write>(streams: &mut Streams<W>, out: &[u8])
-    requires { (s : List ℕ) → 65536 < length s → Prints s out.now }
-    ensures { streams.new.has_complained ≡ false → (s : List ℕ) → 65536 < length s → Answered s (W.contents streams.old.output) (W.contents streams.new.output) }
-{
-    send(streams, out);
-}
-
 // Prints the answer where the buffer is long enough for it, and says whether it was. For every one 440,000 bytes are enough: 1,024 rows of at most
 // 429 bytes and the header's 29.
 fn print_from<W: Write>(streams: &mut Streams<W>, out: &mut [u8], text: &[u8]) -> bool
@@ -77,10 +44,10 @@ fn print_from<W: Write>(streams: &mut Streams<W>, out: &mut [u8], text: &[u8]) -
     ensures untouched { result ≡ false → streams.new ≡ streams.old }
     ensures answered { result ≡ true → streams.new.has_complained ≡ false → Answered text.now (W.contents streams.old.output) (W.contents streams.new.output) }
 {
-    let Written::Bytes(count) = answer_text(out, text) else {
+    let Ok(count) = answer_text(out, text) else {
         return false;
     };
-    print(streams, text, &out[0..count]);
+    send(streams, &out[..count]);
     true
 }
 
@@ -105,12 +72,9 @@ fn print_long<W: Write>(streams: &mut Streams<W>, text: &[u8])
 fn print_answer<W: Write>(streams: &mut Streams<W>, text: &[u8])
     ensures { streams.new.has_complained ≡ false → Answered text.now (W.contents streams.old.output) (W.contents streams.new.output) }
 {
-    if text.len() <= SHORT_TEXT {
-        if print_short(streams, text) {
-            return;
-        }
+    if SHORT_TEXT < text.len() || !print_short(streams, text) {
+        print_long(streams, text);
     }
-    print_long(streams, text);
 }
 
 // A text above 65,536 bytes is refused, and none of it has to be seen.
@@ -118,10 +82,10 @@ fn print_too_long<W: Write>(streams: &mut Streams<W>)
     ensures { streams.new.has_complained ≡ false → (s : List ℕ) → 65536 < length s → Answered s (W.contents streams.old.output) (W.contents streams.new.output) }
 {
     let mut out = [0u8; 64];
-    let Written::Bytes(count) = refusals::write_refusal(&mut out, Refusal::TooLong) else {
+    let Ok(end) = refusals::write_refusal(&mut out, Refusal::TooLong) else {
         unreachable!()
     };
-    print_for_long(streams, &out[0..count]);
+    send(streams, &out[..end]);
 }
 
 fn complain_unread<W: Write>(streams: &mut Streams<W>)
@@ -138,12 +102,11 @@ fn complain_unread<W: Write>(streams: &mut Streams<W>)
 fn answer_input<R: Read, W: Write>(input: &mut R, streams: &mut Streams<W>)
     ensures { streams.new.has_complained ≡ false → IfSome (R.remaining input.old) (λ s. Answered s (W.contents streams.old.output) (W.contents streams.new.output)) }
 {
-    let mut buffer = [0u8; 65536];
-    let read = stream::read_input(input, &mut buffer);
-    match read {
-        Input::Whole(count) => print_answer(streams, &buffer[..count]),
-        Input::TooLong => print_too_long(streams),
-        Input::Broken => complain_unread(streams),
+    let mut buffer = [0u8; MOST_BYTES];
+    match stream::read_input(input, &mut buffer) {
+        Ok(Input::Whole(count)) => print_answer(streams, &buffer[..count]),
+        Ok(Input::TooLong) => print_too_long(streams),
+        Err(_) => complain_unread(streams),
     }
 }
 

@@ -5,12 +5,11 @@ ghost use Rattle.std.specs.Io.KnownBytes.{Appends, Consumes, IsAtEnd};
 use std::io::{self, Read, Stderr, Write};
 use std::process::ExitCode;
 
-// What became of the input: so many bytes, and its end was seen; or there is more than the buffer has places; or it could not be read to its end.
+// What was read of the input: so many bytes, and its end was seen; or there is more than the buffer has places.
 #[derive(Drop)]
 pub(crate) enum Input {
     Whole(usize),
     TooLong,
-    Broken,
 }
 
 // Reads until the buffer is full or nothing more comes, and answers how many bytes came.
@@ -38,35 +37,21 @@ fn read_one_more<R: Read>(input: &mut R) -> io::Result<usize>
     input.read(&mut byte)
 }
 
-fn judge_input(count: usize, more: io::Result<usize>, most: usize) -> Input
-    requires { count ≤ most }
-    ensures fits { (n : ℕ) → result ≡ Input.Whole n → n ≤ most }
-    ensures end { (n : ℕ) → result ≡ Input.Whole n → (n ≡ count) × (more ≡ Ok 0) }
-    ensures more { result ≡ Input.TooLong → (most ≤ count) × ((m : ℕ) × (0 < m) × (more ≡ Ok m)) }
+// Reads an input to its end. It is an error too where bytes follow what was its end.
+pub(crate) fn read_input<R: Read>(input: &mut R, buffer: &mut [u8]) -> io::Result<Input>
+    ensures fits { (n : ℕ) → result ≡ Ok (Input.Whole n) → n ≤ length buffer.new }
+    ensures whole { (n : ℕ) → result ≡ Ok (Input.Whole n) → IfSome (R.remaining input.old) (λ s. s ≡ take n buffer.new) }
+    ensures longer { result ≡ Ok Input.TooLong → IfSome (R.remaining input.old) (λ s. length buffer.new < length s) }
 {
-    let Ok(more) = more else {
-        return Input::Broken;
-    };
+    let count = read_full(input, buffer)?;
+    let more = read_one_more(input)?;
     if more == 0 {
-        return Input::Whole(count);
+        return Ok(Input::Whole(count));
     }
-    if count < most {
-        return Input::Broken;
+    if count < buffer.len() {
+        return Err(io::ErrorKind::InvalidData.into());
     }
-    Input::TooLong
-}
-
-// Reads an input to its end.
-pub(crate) fn read_input<R: Read>(input: &mut R, buffer: &mut [u8]) -> Input
-    ensures fits { (n : ℕ) → result ≡ Input.Whole n → n ≤ length buffer.new }
-    ensures whole { (n : ℕ) → result ≡ Input.Whole n → IfSome (R.remaining input.old) (λ s. s ≡ take n buffer.new) }
-    ensures longer { result ≡ Input.TooLong → IfSome (R.remaining input.old) (λ s. length buffer.new < length s) }
-{
-    let Ok(count) = read_full(input, buffer) else {
-        return Input::Broken;
-    };
-    let more = read_one_more(input);
-    judge_input(count, more, buffer.len())
+    Ok(Input::TooLong)
 }
 
 // Where the rows and the complaints go.

@@ -1,7 +1,6 @@
 -- One output for every text, and never too long; how an answer follows from those of the calls that are made for it.
-use Rattle.std.specs.Prelude.{ℕ, suc, ◌-◌, ◌≤◌, ◌<◌, ◌≡◌, refl, List, length, take, drop, replicate}
+use Rattle.std.specs.Prelude.{ℕ, suc, ◌≤◌, ◌<◌, ◌≡◌, refl, List, length, take, replicate}
 use Rattle.std.proofs.Common.{sym, ap, ◌∙◌, subst, arith, lt-ltb}
-use Rattle.std.proofs.Math.Nat.{sub-zero}
 use Rattle.std.proofs.lemmas.List.Edits.{sets}
 use Rattle.std.proofs.lemmas.List.{length-replicate}
 use Rattle.truth.specs.Truth.Bools.{by_split}
@@ -92,14 +91,11 @@ answers_low a = writes_low a.writes
 pub answers_fit : (s : List ℕ) {before after : List ℕ} {r : Refusal} → Answers s before (Err r) after → 440000 ≤ length before → ⊥
 answers_fit s a h = writes_not a.writes (omega (arith, prints_short s a.prints, h))
 
--- and it is that, as a slice of its first places
-abbrev first : ℕ → List ℕ → List ℕ
-first n l = take (n - 0) (drop 0 l)
+-- and it is that
+writes_part : {bytes before after : List ℕ} {n : ℕ} → Writes bytes before (Ok n) after → take n after ≡ bytes
+writes_part {bytes} {before} (written h) = take_sets before bytes h
 
-writes_part : {bytes before after : List ℕ} {n : ℕ} → Writes bytes before (Ok n) after → first n after ≡ bytes
-writes_part {bytes} {before} (written h) = ap (λ i. take i (sets before 0 bytes)) (sub-zero (length bytes)) ∙ take_sets before bytes h
-
-pub answers_part : {o : Outcome} {before after : List ℕ} {n : ℕ} → AnswersFor o before (Ok n) after → PrintsFor o (first n after)
+pub answers_part : {o : Outcome} {before after : List ℕ} {n : ℕ} → AnswersFor o before (Ok n) after → PrintsFor o (take n after)
 answers_part {o} a = subst (PrintsFor o) (sym (writes_part a.writes)) a.prints
 
 -- ---- a text above 65,536 bytes
@@ -119,7 +115,7 @@ module _ {before after : List ℕ} where
   pub long_low : {n : ℕ} → ((s : List ℕ) → 65536 < length s → Answers s before (Ok n) after) → n ≤ length before
   long_low h = let t = long_text 65536 in answers_low (h t.0 t.1)
 
-  pub long_part : {n : ℕ} → ((s : List ℕ) → 65536 < length s → Answers s before (Ok n) after) → (s : List ℕ) → 65536 < length s → Prints s (first n after)
+  pub long_part : {n : ℕ} → ((s : List ℕ) → 65536 < length s → Answers s before (Ok n) after) → (s : List ℕ) → 65536 < length s → Prints s (take n after)
   long_part h s l = answers_part (h s l)
 
   pub long_fit : {r : Refusal} → ((s : List ℕ) → 65536 < length s → Answers s before (Err r) after) → 51 ≤ length before → ⊥

@@ -1,158 +1,150 @@
 // Numbers out of a request's bytes, and slices out of its numbers.
-ghost use Rattle.std.specs.Prelude.{◌≤◌};
+ghost use Rattle.std.specs.Prelude.{◌≤◌, length};
 
-pub(crate) fn at_most(n: usize, most: usize) -> usize
-    ensures { result ≤ most }
-{
-    if most < n { most } else { n }
+// Numbers that a lent slice holds.
+pub(crate) trait Entry: Copy + PartialEq + Drop {
+    // What every place of the lent slices holds before a call.
+    const BLANK: Self;
+
+    // The lowest binary digits of a number.
+    fn of(n: usize) -> Self;
+
+    fn wide(self) -> u64;
 }
 
-// A sum that stops at the largest number.
-pub(crate) fn plus(a: usize, b: usize) -> usize {
-    if usize::MAX - a < b {
-        return usize::MAX;
+impl Entry for u8 {
+    const BLANK: u8 = 9;
+
+    fn of(n: usize) -> u8 {
+        (n % 256) as u8
     }
-    a + b
+
+    fn wide(self) -> u64 {
+        self as u64
+    }
 }
 
-fn digit(b: u8) -> usize
-    ensures { result ≤ 9 }
-{
-    if b < b'0' {
-        return 0;
+impl Entry for u16 {
+    const BLANK: u16 = 9;
+
+    fn of(n: usize) -> u16 {
+        (n % 65536) as u16
     }
-    if b'9' < b {
-        return 0;
+
+    fn wide(self) -> u64 {
+        self as u64
     }
-    (b - b'0') as usize
 }
 
-// The number with one more digit at its end, or the largest number.
+impl Entry for u64 {
+    const BLANK: u64 = 9;
+
+    fn of(n: usize) -> u64 {
+        n as u64
+    }
+
+    fn wide(self) -> u64 {
+        self
+    }
+}
+
+// The number with one more digit at its end, or the largest number. What is no digit counts as 0.
 fn append(n: usize, b: u8) -> usize {
-    if usize::MAX / 10 < n {
-        return usize::MAX;
-    }
-    plus(n * 10, digit(b))
+    let digit = if b.is_ascii_digit() { b - b'0' } else { 0 };
+    n.saturating_mul(10).saturating_add(digit as usize)
 }
 
-fn put(numbers: &mut [usize], i: usize, n: usize) {
-    if i < numbers.len() {
-        numbers[i] = n;
-    }
-}
-
-fn next_count(count: usize, b: u8) -> usize {
-    if b == b' ' {
-        return plus(count, 1);
-    }
-    count
-}
-
-// The place after so many spaces, or the end.
-pub(crate) fn after_spaces(bytes: &[u8], spaces: usize) -> usize {
-    let mut count: usize = 0;
-    let mut i: usize = 0;
-    while i < bytes.len() {
-        if count == spaces {
-            return i;
-        }
-        count = next_count(count, bytes[i]);
-        i += 1;
-    }
-    i
-}
-
-fn next_value(value: usize, b: u8) -> usize {
-    if b == b' ' {
-        return 0;
-    }
-    append(value, b)
-}
-
-// Stores the numbers that the bytes hold, one space between, as far as there is place, and answers how many spaces there are.
-fn store_numbers(numbers: &mut [usize], bytes: &[u8]) -> usize {
+// Stores the numbers that the bytes hold, one space between, as far as there is place, and answers how many they are. A space at the end has no
+// number after it.
+pub(crate) fn read_numbers(numbers: &mut [usize], bytes: &[u8]) -> usize {
     let mut count: usize = 0;
     let mut value: usize = 0;
-    let mut i: usize = 0;
-    while i < bytes.len() {
-        count = next_count(count, bytes[i]);
-        value = next_value(value, bytes[i]);
-        put(numbers, count, value);
-        i += 1;
-    }
-    count
-}
-
-// A space at the end has no number after it.
-fn ends_in_number(bytes: &[u8]) -> bool {
-    let n = bytes.len();
-    if n == 0 {
-        return false;
-    }
-    bytes[n - 1] != b' '
-}
-
-// Stores the numbers that the bytes hold as far as there is place, and answers how many they are.
-pub(crate) fn read_numbers(numbers: &mut [usize], bytes: &[u8]) -> usize {
-    let count = store_numbers(numbers, bytes);
-    if ends_in_number(bytes) {
-        return plus(count, 1);
-    }
-    count
-}
-
-// The number at a place, or 0 past the end.
-pub(crate) fn peek(numbers: &[usize], i: usize) -> usize {
-    if i < numbers.len() {
-        return numbers[i];
-    }
-    0
-}
-
-// A list is its length and so many numbers.
-pub(crate) fn after_list(numbers: &[usize], at: usize) -> usize {
-    plus(at, plus(peek(numbers, at), 1))
-}
-
-// Stores the list at a place as far as it fits, and answers how many numbers that is.
-pub(crate) fn fill_u8(to: &mut [u8], numbers: &[usize], at: usize) -> usize {
-    let count = peek(numbers, at);
-    let first = plus(at, 1);
-    let mut i: usize = 0;
-    while i < to.len() {
-        if i == count {
-            return i;
+    let mut open = false;
+    for &b in bytes {
+        open = b != b' ';
+        if open {
+            value = append(value, b);
+        } else {
+            count = count.saturating_add(1);
+            value = 0;
         }
-        to[i] = (peek(numbers, plus(first, i)) % 256) as u8;
-        i += 1;
+        if let Some(place) = numbers.get_mut(count) {
+            *place = value;
+        }
     }
-    i
+    if open { count.saturating_add(1) } else { count }
 }
 
-pub(crate) fn fill_u16(to: &mut [u16], numbers: &[usize], at: usize) -> usize {
-    let count = peek(numbers, at);
-    let first = plus(at, 1);
-    let mut i: usize = 0;
-    while i < to.len() {
-        if i == count {
-            return i;
-        }
-        to[i] = (peek(numbers, plus(first, i)) % 65536) as u16;
-        i += 1;
-    }
-    i
+// The numbers of a request that were not read yet.
+#[derive(Drop)]
+pub(crate) struct Rest<'a> {
+    pub(crate) numbers: &'a [usize],
 }
 
-pub(crate) fn fill_u64(to: &mut [u64], numbers: &[usize], at: usize) -> usize {
-    let count = peek(numbers, at);
-    let first = plus(at, 1);
-    let mut i: usize = 0;
-    while i < to.len() {
-        if i == count {
-            return i;
-        }
-        to[i] = peek(numbers, plus(first, i)) as u64;
-        i += 1;
+// A list as it was asked for: so many numbers, of which those that are not there are 0.
+#[derive(Drop)]
+pub(crate) struct List<'a> {
+    count: usize,
+    numbers: &'a [usize],
+}
+
+impl<'a> Rest<'a> {
+    // The next number, or 0 past the end.
+    pub(crate) fn next(&mut self) -> usize {
+        let Some((&n, rest)) = self.numbers.split_first() else {
+            return 0;
+        };
+        self.numbers = rest;
+        n
     }
-    i
+
+    // The next list: its length and so many numbers.
+    pub(crate) fn take_list(&mut self) -> List<'a> {
+        let count = self.next();
+        let (numbers, rest) = self.numbers.split_at(count.min(self.numbers.len()));
+        self.numbers = rest;
+        List { count, numbers }
+    }
+}
+
+// The first places of an array, which are lent.
+#[derive(Drop)]
+pub(crate) struct Lent<T: Entry, const N: usize> {
+    pub(crate) places: [T; N],
+    pub(crate) long: usize,
+    ghost within: { long ≤ N },
+}
+
+impl<T: Entry, const N: usize> Lent<T, N> {
+    // So many places, or all, which hold what a call may not have written.
+    pub(crate) fn blank(long: usize) -> Lent<T, N> {
+        Lent {
+            places: [T::BLANK; N],
+            long: long.min(N),
+        }
+    }
+
+    // The list as far as it fits.
+    pub(crate) fn of(list: &List) -> Lent<T, N> {
+        let long = list.count.min(N);
+        let mut places = [T::BLANK; N];
+        for (i, place) in places.iter_mut().enumerate().take(long) {
+            *place = T::of(list.numbers.get(i).copied().unwrap_or(0));
+        }
+        Lent { places, long }
+    }
+
+    pub(crate) fn slice(&self) -> &[T] {
+        &self.places[..self.long]
+    }
+
+    // Whether the places from `from` on hold what they held before the call.
+    pub(crate) fn is_kept(&self, from: usize) -> bool {
+        keeps(&self.places, from)
+    }
+}
+
+// Whether the places from `from` on hold what every place held before the call.
+pub(crate) fn keeps<T: Entry>(places: &[T], from: usize) -> bool {
+    places.iter().skip(from).all(|&x| x == T::BLANK)
 }

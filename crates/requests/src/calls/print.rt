@@ -1,40 +1,37 @@
 // The result, or a refusal, as the bytes that the rows' printer stores in a lent buffer.
-use crate::calls::Asked;
-use crate::numbers::at_most;
-use crate::show::{BLANK_U8, Out, keeps_u8, print, print_refusal, print_unless_kept};
-use graph::Refusal;
-use refusals::Written;
+use super::Held;
+use crate::numbers::{Entry, Rest, keeps};
+use crate::show::Out;
+use graph::{LentGraph, Refusal};
 
-// Prints the first bytes of a buffer, and says so if the rest was written.
-fn print_first(out: &mut Out, buffer: &[u8], count: usize) {
-    let n = at_most(count, buffer.len());
-    print(out, &buffer[0..n]);
-    print_unless_kept(out, keeps_u8(buffer, n));
-}
+// How many places a buffer may have.
+const MOST_PLACES: usize = 400000;
 
-fn print_written(out: &mut Out, written: Written, buffer: &[u8]) {
-    match written {
-        Written::Bytes(count) => print_first(out, buffer, count),
-        Written::Refused(why) => {
-            print_refusal(out, why);
-            print_unless_kept(out, keeps_u8(buffer, 0));
+// Prints the bytes that were written to a buffer, and says so if another place was.
+fn print_written(out: &mut Out, written: Result<usize, Refusal>, buffer: &[u8]) {
+    let kept_from = match written {
+        Ok(count) => {
+            let count = count.min(buffer.len());
+            out.print(&buffer[..count]);
+            count
         }
-    }
+        Err(why) => {
+            out.print_refusal(why);
+            0
+        }
+    };
+    out.print_unless_kept(keeps(buffer, kept_from));
 }
 
-fn result_to(
-    out: &mut Out,
-    buffer: &mut [u8],
-    n: usize,
-    kinds: &[u8],
-    checks: &[u16],
-    denied: &[u64],
-    granted: &[u64],
-) {
-    let written = rows::write_result(buffer, n, kinds, checks, denied, granted);
-    print_written(out, written, buffer);
+pub(crate) fn print_result(out: &mut Out, held: &Held, long: usize, graph: &LentGraph) {
+    let mut buffer = [u8::BLANK; MOST_PLACES];
+    let lent = &mut buffer[..long.min(MOST_PLACES)];
+    let nodes = &graph.nodes;
+    let written = rows::write_result(lent, graph.size.n, nodes.kinds, nodes.checks, &held.sets());
+    print_written(out, written, lent);
 }
 
+// The refusal of a number, with the place where it names one.
 fn numbered(number: usize, place: usize) -> Refusal {
     match number {
         1 => Refusal::Shape,
@@ -52,59 +49,10 @@ fn numbered(number: usize, place: usize) -> Refusal {
     }
 }
 
-fn refusal_to(out: &mut Out, buffer: &mut [u8], why: Refusal) {
-    let written = refusals::write_refusal(buffer, why);
-    print_written(out, written, buffer);
-}
-
-// 8 has the buffer's length first, 9 the refusal's number and place before it.
-fn length_of(call: usize, asked: Asked) -> usize {
-    if call == 8 {
-        return asked.first;
-    }
-    asked.third
-}
-
-fn print_to(
-    out: &mut Out,
-    buffer: &mut [u8],
-    call: usize,
-    asked: Asked,
-    n: usize,
-    kinds: &[u8],
-    checks: &[u16],
-    denied: &[u64],
-    granted: &[u64],
-) {
-    if call == 8 {
-        result_to(out, buffer, n, kinds, checks, denied, granted);
-        return;
-    }
-    refusal_to(out, buffer, numbered(asked.first, asked.second));
-}
-
-// Call 8 or 9.
-pub(crate) fn print_rows(
-    out: &mut Out,
-    call: usize,
-    asked: Asked,
-    n: usize,
-    kinds: &[u8],
-    checks: &[u16],
-    denied: &[u64],
-    granted: &[u64],
-) {
-    let long = at_most(length_of(call, asked), 400000);
-    let mut buffer = [BLANK_U8; 400000];
-    print_to(
-        out,
-        &mut buffer[0..long],
-        call,
-        asked,
-        n,
-        kinds,
-        checks,
-        denied,
-        granted,
-    );
+pub(crate) fn print_refusal(out: &mut Out, rest: &mut Rest) {
+    let why = numbered(rest.next(), rest.next());
+    let mut buffer = [u8::BLANK; MOST_PLACES];
+    let lent = &mut buffer[..rest.next().min(MOST_PLACES)];
+    let written = refusals::write_refusal(lent, why);
+    print_written(out, written, lent);
 }

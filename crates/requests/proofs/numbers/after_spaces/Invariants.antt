@@ -1,9 +1,0 @@
-use lib.ListN.{length}
-use Prim.Native.Nat.{◌-◌}
-use Rattle.requests.proofs.numbers.after_spaces.Given as goal
-
-abbrev pub invariant-loop-i : goal.invariant-loop-i
-invariant-loop-i l = Unit {0}
-
-abbrev pub decreases-loop-i : goal.decreases-loop-i
-decreases-loop-i l = length l.bytes - l.i

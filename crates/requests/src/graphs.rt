@@ -1,6 +1,8 @@
 // The eight slices of a graph, in arrays of one place more than a graph may have.
+ghost use Rattle.std.specs.Prelude.{◌<◌};
+
 use super::numbers::{Lent, Rest};
-use graph::{LentEdges, LentGraph, LentNodes, Size};
+use graph::{Edge, LentEdges, LentGraph, LentNodes, Node, Size};
 
 pub(crate) const NODES: usize = graph::MOST_NODES + 1;
 
@@ -41,17 +43,16 @@ impl Slices {
         }
     }
 
-    // Slices of these lengths, in the order of the reader's call.
-    pub(crate) fn blank(long: [usize; 8]) -> Slices {
+    pub(crate) fn blank() -> Slices {
         Slices {
-            kinds: Lent::blank(long[0]),
-            checks: Lent::blank(long[1]),
-            privileged: Lent::blank(long[2]),
-            entries: Lent::blank(long[3]),
-            grants: Lent::blank(long[4]),
-            froms: Lent::blank(long[5]),
-            tos: Lent::blank(long[6]),
-            ways: Lent::blank(long[7]),
+            kinds: Lent::blank(NODES),
+            checks: Lent::blank(NODES),
+            privileged: Lent::blank(NODES),
+            entries: Lent::blank(NODES),
+            grants: Lent::blank(NODES),
+            froms: Lent::blank(EDGES),
+            tos: Lent::blank(EDGES),
+            ways: Lent::blank(EDGES),
         }
     }
 
@@ -70,6 +71,29 @@ impl Slices {
                 tos: self.tos.slice(),
                 ways: self.ways.slice(),
             },
+        }
+    }
+
+    // What every place of a node or an edge holds, lent or not.
+    pub(crate) fn node(&self, i: usize) -> Node
+        requires { i < 1025 }
+    {
+        Node {
+            kind: self.kinds.places[i],
+            check: self.checks.places[i],
+            privileged: self.privileged.places[i],
+            entry: self.entries.places[i],
+            grants: self.grants.places[i],
+        }
+    }
+
+    pub(crate) fn edge(&self, e: usize) -> Edge
+        requires { e < 4097 }
+    {
+        Edge {
+            from: self.froms.places[e],
+            to: self.tos.places[e],
+            way: self.ways.places[e],
         }
     }
 

@@ -1,6 +1,4 @@
 // Numbers out of a request's bytes, and slices out of its numbers.
-ghost use Rattle.std.specs.Prelude.{◌≤◌, length};
-
 // Numbers that a lent slice holds.
 pub(crate) trait Entry: Copy + PartialEq + Drop {
     // What every place of the lent slices holds before a call.
@@ -112,7 +110,6 @@ impl<'a> Rest<'a> {
 pub(crate) struct Lent<T: Entry, const N: usize> {
     pub(crate) places: [T; N],
     pub(crate) long: usize,
-    ghost within: { long ≤ N },
 }
 
 impl<T: Entry, const N: usize> Lent<T, N> {
@@ -135,7 +132,7 @@ impl<T: Entry, const N: usize> Lent<T, N> {
     }
 
     pub(crate) fn slice(&self) -> &[T] {
-        &self.places[..self.long]
+        &self.places[..self.long.min(N)]
     }
 
     // Whether the places from `from` on hold what they held before the call.

@@ -66,23 +66,23 @@ fn print_graph(out: &mut Out, size: Size, slices: &Slices) {
     }
 }
 
-// Reads a text into slices of these lengths.
+// Reads a text into slices of these lengths, in the order of the call.
 fn answer_lent(out: &mut Out, text: &[u8], long: [usize; 8]) {
-    let mut slices = Slices::blank(long);
+    let mut slices = Slices::blank();
     let reading = text::read(
         text,
         &mut GraphPlaces {
             nodes: NodePlaces {
-                kinds: slices.kinds.lend(),
-                checks: slices.checks.lend(),
-                privileged: slices.privileged.lend(),
-                entries: slices.entries.lend(),
-                grants: slices.grants.lend(),
+                kinds: &mut slices.kinds.places[..long[0].min(NODES)],
+                checks: &mut slices.checks.places[..long[1].min(NODES)],
+                privileged: &mut slices.privileged.places[..long[2].min(NODES)],
+                entries: &mut slices.entries.places[..long[3].min(NODES)],
+                grants: &mut slices.grants.places[..long[4].min(NODES)],
             },
             edges: EdgePlaces {
-                froms: slices.froms.lend(),
-                tos: slices.tos.lend(),
-                ways: slices.ways.lend(),
+                froms: &mut slices.froms.places[..long[5].min(EDGES)],
+                tos: &mut slices.tos.places[..long[6].min(EDGES)],
+                ways: &mut slices.ways.places[..long[7].min(EDGES)],
             },
         },
     );

@@ -8,17 +8,21 @@ use solver::SetPlaces;
 
 // What the first two slices hold after this is lent to the calls that follow.
 pub(crate) fn solve(out: &mut Out, held: &mut Held, rest: &mut Rest, graph: &LentGraph) {
-    let mut denied: Lent<u64, NODES> = Lent::blank(rest.next());
-    let mut granted: Lent<u64, NODES> = Lent::blank(rest.next());
-    let mut may: Lent<u64, EDGES> = Lent::blank(rest.next());
-    let mut sure: Lent<u64, EDGES> = Lent::blank(rest.next());
+    let a = rest.next();
+    let b = rest.next();
+    let c = rest.next();
+    let d = rest.next();
+    let mut denied: Lent<u64, NODES> = Lent::blank(a);
+    let mut granted: Lent<u64, NODES> = Lent::blank(b);
+    let mut may: Lent<u64, EDGES> = Lent::blank(c);
+    let mut sure: Lent<u64, EDGES> = Lent::blank(d);
     let solved = solver::solve(
         graph,
         &mut SetPlaces {
-            denied: denied.lend(),
-            granted: granted.lend(),
-            may: may.lend(),
-            sure: sure.lend(),
+            denied: &mut denied.places[..a.min(NODES)],
+            granted: &mut granted.places[..b.min(NODES)],
+            may: &mut may.places[..c.min(EDGES)],
+            sure: &mut sure.places[..d.min(EDGES)],
         },
     );
     match solved {

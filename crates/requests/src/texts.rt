@@ -8,12 +8,12 @@ use graph::{Edge, EdgePlaces, GraphPlaces, Node, NodePlaces, Size};
 
 fn print_set(out: &mut Out, bits: u64) {
     let mut some = false;
-    for p in 0..64 {
+    for p in 0..64u64 {
         if (bits >> p) % 2 == 1 {
             if some {
                 out.print(b" ");
             }
-            out.print_number(p as u64);
+            out.print_number(p);
             some = true;
         }
     }

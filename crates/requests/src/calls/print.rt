@@ -23,12 +23,19 @@ fn print_written(out: &mut Out, written: Result<usize, Refusal>, buffer: &[u8]) 
     out.print_unless_kept(keeps(buffer, kept_from));
 }
 
+// Prints the result by the first `long` places of a buffer.
+fn result_to(out: &mut Out, buffer: &mut [u8], long: usize, held: &Held, graph: &LentGraph) {
+    let n = long.min(buffer.len());
+    let lent = &mut buffer[..n];
+    let nodes = &graph.nodes;
+    let sets = held.sets();
+    let written = rows::write_result(lent, graph.size.n, nodes.kinds, nodes.checks, &sets);
+    print_written(out, written, lent);
+}
+
 pub(crate) fn print_result(out: &mut Out, held: &Held, long: usize, graph: &LentGraph) {
     let mut buffer = [u8::BLANK; MOST_PLACES];
-    let lent = &mut buffer[..long.min(MOST_PLACES)];
-    let nodes = &graph.nodes;
-    let written = rows::write_result(lent, graph.size.n, nodes.kinds, nodes.checks, &held.sets());
-    print_written(out, written, lent);
+    result_to(out, &mut buffer, long, held, graph);
 }
 
 // The refusal of a number, with the place where it names one.
@@ -49,10 +56,16 @@ fn numbered(number: usize, place: usize) -> Refusal {
     }
 }
 
-pub(crate) fn print_refusal(out: &mut Out, rest: &mut Rest) {
-    let why = numbered(rest.next(), rest.next());
-    let mut buffer = [u8::BLANK; MOST_PLACES];
-    let lent = &mut buffer[..rest.next().min(MOST_PLACES)];
+fn refusal_to(out: &mut Out, buffer: &mut [u8], long: usize, why: Refusal) {
+    let n = long.min(buffer.len());
+    let lent = &mut buffer[..n];
     let written = refusals::write_refusal(lent, why);
     print_written(out, written, lent);
+}
+
+pub(crate) fn print_refusal(out: &mut Out, rest: &mut Rest) {
+    let why = numbered(rest.next(), rest.next());
+    let long = rest.next();
+    let mut buffer = [u8::BLANK; MOST_PLACES];
+    refusal_to(out, &mut buffer, long, why);
 }

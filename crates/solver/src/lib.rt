@@ -105,7 +105,11 @@ impl Ground<'_> {
     }
 }
 
+// The functions from here to `settle` are compiled into `store`, once for each system: there the compiler knows the system and how many places
+// the sums have. Left as calls they take 23 to 43 % more instructions of the solver, on the texts of bench/peer.
+
 // A set arrives at a node, which goes on the stack where that changed a sum of it.
+#[inline(always)]
 fn arrive(sums: &mut Sums, pending: &mut Pending, system: System, x: Brought)
     requires { (x.to < length sums.old.ins.now) × (x.to < length sums.old.past.now) }
     ensures { state_of sums.new pending.new ≡ arrive (system_of system) (state_of sums.old pending.old) x.to x.set x.counted }
@@ -115,6 +119,7 @@ fn arrive(sums: &mut Sums, pending: &mut Pending, system: System, x: Brought)
 }
 
 // What leaves a node is brought to the nodes at the other ends of its edges, which start before `first`.
+#[inline(always)]
 fn send(sums: &mut Sums, pending: &mut Pending, ground: &Ground, leaving: Leaving, first: u16)
     requires walkable { Walkable ground.now }
     requires sums { HasSums ground.now.graph.size.n sums.old }
@@ -129,6 +134,7 @@ fn send(sums: &mut Sums, pending: &mut Pending, ground: &Ground, leaving: Leavin
 }
 
 // Takes nodes from the stack and tells their edges, until there is none: a node is taken up again only after one of its sums changed.
+#[inline(always)]
 fn walk(sums: &mut Sums, pending: &mut Pending, ground: &Ground)
     requires walkable { Walkable ground.now }
     requires walking { Walks ground.now (state_of sums.old pending.old) }
@@ -142,6 +148,7 @@ fn walk(sums: &mut Sums, pending: &mut Pending, ground: &Ground)
 }
 
 // One system: the sums of its nodes, when no edge has anything more to tell.
+#[inline(always)]
 fn settle(sums: &mut Sums, ground: &Ground)
     requires walkable { Walkable ground.now }
     requires sums { HasSums ground.now.graph.size.n sums.old }

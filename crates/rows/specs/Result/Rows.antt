@@ -10,8 +10,8 @@ use Rattle.truth.specs.Truth.Bools.{by_split}
 use Rattle.sets.specs.Sets.{has}
 use Rattle.graph.specs.Graph.{verdict_of}
 use Rattle.writer.specs.declared.Writer.{Writer}
-use Rattle.writer.specs.Writer.{decimal, Adds}
-use Rattle.writer.specs.Writer.Places.{adds_none, adds_then, adds_as}
+use Rattle.writer.specs.Writer.{decimal, last_place, Puts, Adds}
+use Rattle.writer.specs.Writer.Places.{puts_none, puts_then, puts_as, adds_none, adds_then, adds_as}
 use Rattle.writer.specs.Writer.Numbers.{decimal_short}
 use Rattle.members.specs.Members.{set_bytes}
 use Rattle.members.specs.Members.Laws.{set_short}
@@ -89,3 +89,21 @@ module _ (kinds checks denied granted : List ℕ) where
 
 pub shown_short : (s : Shown) → length (shown_bytes s) ≤ s.n * 429 + 29
 shown_short s = result_short s.kinds.now s.checks.now s.sets.denied.now s.sets.granted.now s.n
+
+-- ---- the same of bytes at a place of a buffer
+
+module _ (kinds checks denied granted : List ℕ) where
+  pub rowing_start : {l : List ℕ} {from : ℕ} → from ≤ last_place → Puts (rows_from kinds checks denied granted 0 0) l from from l
+  unfolding rows_from
+  rowing_start h = puts_none h
+
+  pub rowing_more : {l m n : List ℕ} {from next next' : ℕ} (i : ℕ) → length l ≤ last_place → Puts (rows_from kinds checks denied granted 0 i) l from next m
+      → Puts (row_bytes i (get_or kinds i 0) (get_or checks i 0) (get_or denied i 0) (get_or granted i 0)) m next next' n → Puts (rows_from kinds checks denied granted 0 (i + 1)) l from next' n
+  rowing_more i short r p =
+      let z : 0 + i ≡ i = omega arith in
+      let e : rows_from kinds checks denied granted 0 i ++ row_at kinds checks denied granted i ≡ rows_from kinds checks denied granted 0 (i + 1) =
+      ap (λ j. rows_from kinds checks denied granted 0 i ++ row_at kinds checks denied granted j) (sym z) ∙ rows_more kinds checks denied granted 0 i ∙ ap (rows_from kinds checks denied granted 0) (sym (add-one i)) in
+      puts_as e (puts_then short r p)
+
+  pub rowing_end : {l m : List ℕ} {from next : ℕ} (i n : ℕ) → Puts (rows_from kinds checks denied granted 0 i) l from next m → i ≡ n → Puts (rows_from kinds checks denied granted 0 n) l from next m
+  rowing_end i n r e = puts_as (ap (rows_from kinds checks denied granted 0) e) r

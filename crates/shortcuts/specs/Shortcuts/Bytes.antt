@@ -15,10 +15,10 @@ use Rattle.lex.specs.declared.Mark.TheVariants.{Comma}
 use Rattle.lex.specs.Lex.{before_at}
 use Rattle.lex.specs.Lex.Bare.{bare_comma, bare_end}
 use Rattle.fields.specs.declared.Form.{Form}
-use Rattle.fields.specs.declared.Form.TheVariants.{Number, Own, Kind, Check, Marks, Way, Empty}
+use Rattle.fields.specs.declared.Form.TheVariants.{Tag, Number, Own, Kind, Check, Marks, Way, Empty}
 use Rattle.fields.specs.Fields.{says, said_by, said_at, form_at, end_at}
-use Rattle.fields.specs.Fields.Forms.{own_yes, number_says, empty_says, check_there, check_none, kind_call, kind_return, kind_check, way_call, way_transfer, marks_empty, marks_p, marks_e}
-use Rattle.shortcuts.specs.Shortcuts.Short.{Quick, Numeral, Stands, Short, short_at, numeral_stands}
+use Rattle.fields.specs.Fields.Forms.{tag_yes, own_yes, number_says, empty_says, check_there, check_none, kind_call, kind_return, kind_check, way_call, way_transfer, marks_empty, marks_p, marks_e}
+use Rattle.shortcuts.specs.Shortcuts.Short.{Quick, Numeral, Short, short_at, numeral_stands}
 
 -- an answer that says something is right
 pub quick_right : {X : Type 0} {right r y : Option X} → Quick right r → r ≡ y → (y ≡ None → ⊥) → y ≡ right
@@ -40,6 +40,9 @@ module _ (form : Form) (s : List ℕ) {at e : ℕ} {w : List ℕ} (r : Bare s at
   pub end_bare : get_or s e 0 ≡ 13 → get_or s (e + 1) 0 ≡ 10 → end_at form s at ≡ option_map (λ v. read_to v (e + 2)) (says form w)
   unfolding said_at
   end_bare p q = simp (bare_end s r p q, bare_part s r)
+
+pub short_says : {form : Form} {s : List ℕ} {at : ℕ} {x : At ℕ} → Short form s at x → form_at form s at ≡ Some x
+short_says n = n.read
 
 -- ---- digits
 
@@ -96,6 +99,9 @@ module _ (form : Form) (s : List ℕ) (at : ℕ) where
 
   pub empty_short : says form [] ≡ Some 0 → get_or s at 0 ≡ 44 → Short form s at (read_to 0 (at + 1))
   empty_short o e = record { read = form_bare form s none e ∙ ap (option_map (λ (u : ℕ). read_to u (at + 1))) o; near = omega arith }
+
+pub tag_says : (b : ℕ) → says (Tag b) (b ∷ []) ≡ Some 0
+tag_says b = tag_yes (b ∷ []) b refl
 
 pub kind_says_0 : says Kind (67 ∷ []) ≡ Some 0
 kind_says_0 = kind_call (67 ∷ []) 67 refl refl

@@ -31,7 +31,7 @@ puts_none h = record { answer = omega (arith, h); content = refl }
 pub puts_long : {bytes l m : List ℕ} {i j : ℕ} → Puts bytes l i j m → length m ≡ length l
 puts_long {bytes} {l} {m} {i} p = ap length p.content ∙ length-sets l i bytes
 
-puts_then : {xs ys l m n : List ℕ} {i j k : ℕ} → length l ≤ last_place → Puts xs l i j m → Puts ys m j k n → Puts (xs ++ ys) l i k n
+pub puts_then : {xs ys l m n : List ℕ} {i j k : ℕ} → length l ≤ last_place → Puts xs l i j m → Puts ys m j k n → Puts (xs ++ ys) l i k n
 puts_then {xs} {ys} {l} {m} {n} {i} {j} {k} h a b = record {
   answer = omega (arith, a.answer, b.answer, length-append xs ys);
   content =

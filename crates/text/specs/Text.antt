@@ -1,7 +1,7 @@
 -- What a text means, and what the reader answers and stores. Definitions alone.
 pub mod Kept
 pub mod Parts
-pub mod Puts
+pub mod Slots
 pub mod Ends
 pub mod Laws
 pub mod Gateway

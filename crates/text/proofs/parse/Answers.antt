@@ -1,11 +1,12 @@
 -- A first row that is wrong ends it. Else its counts are in range, so that the arrays have places for as many nodes and edges. The node rows are read
 -- first, and where one is wrong its refusal is the answer; else the edge rows follow where they end.
-use Rattle.std.proofs.Common.{◌≡◌, Some, sym, ◌∙◌, arith}
+use Rattle.std.proofs.Common.{◌≡◌, refl, Some, sym, ◌∙◌, arith}
 use Rattle.std.proofs.lemmas.Result.{err_from_is_err_and}
 use Rattle.graph.specs.Graph.{Ranges}
 use Rattle.records.specs.Records.{header_at}
 use Rattle.records.specs.Records.Rows.{header_ranges}
-use Rattle.text.specs.Text.Ends.{parse_none, parse_stop, parse_past}
+use Rattle.text.specs.Text.Ends.{tail_by, parse_none, parse_stop, parse_past}
+use Rattle.text.specs.Text.Slots.{nodes_read, edges_read}
 use Rattle.text.proofs.parse.Goals.{In-Some}
 use Rattle.text.proofs.parse.Goals as goal
 
@@ -39,8 +40,9 @@ overflow_add-extra c = let r = ranges (goal.at.overflow_add-extra c).In-Some in 
 pub returns-in_err-past : goal.returns-in_err-past
 returns-in_err-past c =
     let p = err_from_is_err_and c.from_residual.result c.from_residual.ensures.1 in
-    rw (p.1, p.2) (parse_stop _ _ _ (header (goal.at.returns-in_err-past c).In-Some) c.in_err-past.ensures.answer)
+    rw (p.1, p.2) (parse_stop _ _ _ (header (goal.at.returns-in_err-past c).In-Some) c.in_err-past.ensures.answer refl)
 
 pub returns : goal.returns
 returns c =
-    rw c.end_text.ensures (parse_past _ _ _ (header (goal.at.returns c).In-Some) c.in_ok-past.ensures c.read_rows-ran.ensures)
+    let e = edges_read c.read_rows-ran.ensures in
+    parse_past _ _ _ (header (goal.at.returns c).In-Some) (nodes_read c.in_ok-past.ensures) refl (record { answer = c.end_text.ensures ∙ tail_by _ _ _ _ e.answer; so = e.so })

@@ -13,13 +13,10 @@ use Rattle.records.specs.Records.{header_at, node_at, kept}
 use Rattle.records.specs.Records.Rows.{header_ranges}
 use Rattle.extent.specs.Extent.{Ran, Parsed, end_of}
 use Rattle.extent.specs.Extent.Laws.{end_wrong, end_more, end_done}
-use Rattle.extent.specs.declared.Slots.{Slots}
-use Rattle.extent.specs.Room.{node_slots}
-use Rattle.handover.specs.Handover.{NodesWritten}
+use Rattle.handover.specs.Handover.{Lent, NodesWritten}
 use Rattle.text.specs.Text.{onto, rows_at, edge_row, says, wrong, text_at, node_columns, Stores}
 use Rattle.text.specs.Text.Kept.{kept_all}
-use Rattle.text.specs.Text.Parts.{rows_from, end_from, kept_row, node_put, edge_put, RowsRead, slots, Parses, counted, faulty}
-use Rattle.text.specs.Text.Puts.{nodes_put, edges_put}
+use Rattle.text.specs.Text.Parts.{rows_from, end_from, kept_row, tail_of, NodesRead, TailRead, Parses, counted, faulty}
 
 past_stop : {P : Type 0} {q : ℕ} {r : Refusal} → ◌≡◌ {A = Ran} (Ok q) (Err r) → P
 past_stop e = cc
@@ -77,6 +74,12 @@ kept_rows s (suc n) p i = by (node_at s p i) refl (λ q. kept_rows s n q (i + 1)
     by None w r = simp w
     by (Some x) w r = simp w (ap (λ l. kept x.value ∷ l) (r x.next))
 
+-- ---- the edge rows and the end
+
+pub tail_by : (s : List ℕ) (p row : ℕ) (c : Size) {r : Ran} → r ≡ end_from (edge_row s) row c.m p 0 → end_of r (length s) (row + c.m) c ≡ tail_of s p row c
+unfolding tail_of
+tail_by s p row c e = ap (λ (x : Ran). end_of x (length s) (row + c.m) c) e
+
 -- ---- the text
 
 module _ (s : List ℕ) (from row : ℕ) where
@@ -84,11 +87,8 @@ module _ (s : List ℕ) (from row : ℕ) where
   unfolding text_at
   text_none e = simp e
 
-  pub parse_none : {before after : Slots} → header_at s from ≡ None → Parses (slots before) s from row (Err (why.Row row)) (slots after)
+  pub parse_none : {before after : Lent} → header_at s from ≡ None → Parses before s from row (Err (why.Row row)) after
   parse_none e = faulty (text_none e)
-
-  faults : {before after : Slots} {x : ℕ} {r : Parsed} → r ≡ Err (why.Row x) → text_at s from row ≡ wrong x → Parses (slots before) s from row r (slots after)
-  faults {before = before} {after = after} e f = subst (λ (y : Parsed). Parses (slots before) s from row y (slots after)) (sym e) (faulty f)
 
   module _ {c : At Size} (e : header_at s from ≡ Some c) where
     text_node : {i : ℕ} → rows_at (node_at s) c.value.n c.next 0 ≡ Err i → text_at s from row ≡ wrong (row + 1 + i)
@@ -108,14 +108,17 @@ module _ (s : List ℕ) (from row : ℕ) where
       unfolding text_at
       text_says g h = simp (e, f, g, h)
 
+    parses : {before after : Lent} {r y : Parsed} → r ≡ y → Parses before s from row y after → Parses before s from row r after
+    parses {before} {after} a d = subst (λ (y : Parsed). Parses before s from row y after) (sym a) d
+
     -- a node row that is wrong
-    pub parse_stop : {before after : Slots} {r : Refusal} → Err r ≡ end_from (kept_row s) (row + 1) c.value.n c.next 0 → Parses (slots before) s from row (Err r) (slots after)
-    parse_stop {before = before} {after = after} a =
-        let w = rows_stop (node_at s) (row + 1) c.value.n c.next 0 (sym (kept_end s (row + 1) c.value.n c.next 0) ∙ sym a) in
-        faults {before = before} {after = after} (ap Err w.2) (text_node w.1)
+    pub parse_stop : {before after : Lent} {ran : Ran} {r : Refusal} → ran ≡ end_from (kept_row s) (row + 1) c.value.n c.next 0 → ran ≡ Err r → Parses before s from row (Err r) after
+    parse_stop a u =
+        let w = rows_stop (node_at s) (row + 1) c.value.n c.next 0 (sym (kept_end s (row + 1) c.value.n c.next 0) ∙ sym a ∙ u) in
+        parses (ap Err w.2) (faulty (text_node w.1))
 
     -- node rows that are right, and the rest
-    module _ {before after : Slots} {ran : Ran} {q : ℕ} (h : RowsRead (kept_row s) node_put c.next (row + 1) c.value.n before.nodes (Ok q) after.nodes) (t : RowsRead (edge_row s) edge_put q (row + 1 + c.value.n) c.value.m before.edges ran after.edges) where
+    module _ {before after : Lent} {ran : Ran} {q : ℕ} {r : Parsed} (h : NodesRead s c.next (row + 1) c.value.n ran before.nodes after.nodes) (u : ran ≡ Ok q) (t : TailRead s q (row + 1 + c.value.n) c.value r before.edges after.edges) where
       ns : List Node
       ns = rows_from (node_at s) c.value.n c.next 0
 
@@ -124,27 +127,25 @@ module _ (s : List ℕ) (from row : ℕ) where
 
       nodes_are : (rows_at (node_at s) c.value.n c.next 0 ≡ Ok (read_to ns q)) × (length ns ≡ c.value.n)
       unfolding ns
-      nodes_are = rows_past (node_at s) (row + 1) c.value.n c.next 0 (sym (kept_end s (row + 1) c.value.n c.next 0) ∙ sym h.answer)
+      nodes_are = rows_past (node_at s) (row + 1) c.value.n c.next 0 (sym (kept_end s (row + 1) c.value.n c.next 0) ∙ sym h.answer ∙ u)
 
-      so : Stores (slots before) (kept_all ns) es (slots after)
+      so : Stores before (kept_all ns) es after
       unfolding ns es
-      so = record {
-        nodes = subst (λ l. NodesWritten (node_slots before.nodes) (node_columns l) (node_slots after.nodes)) (kept_rows s c.value.n c.next 0) (rw h.so (nodes_put before.nodes (rows_from (kept_row s) c.value.n c.next 0)));
-        edges = rw t.so (edges_put before.edges (rows_from (edge_row s) c.value.m q 0));
-      }
+      so = record { nodes = subst (λ l. NodesWritten before.nodes (node_columns l) after.nodes) (kept_rows s c.value.n c.next 0) h.so; edges = t.so }
 
-      by_edges : (x : Ran) → ran ≡ x → Parses (slots before) s from row (end_of ran (length s) (row + 1 + c.value.n + c.value.m) c.value) (slots after)
+      answers : {x : Ran} {y : Parsed} → end_from (edge_row s) (row + 1 + c.value.n) c.value.m q 0 ≡ x → end_of x (length s) (row + 1 + c.value.n + c.value.m) c.value ≡ y → r ≡ y
+      answers v w = t.answer ∙ sym (tail_by s q (row + 1 + c.value.n) c.value (sym v)) ∙ w
+
+      by_edges : (x : Ran) → end_from (edge_row s) (row + 1 + c.value.n) c.value.m q 0 ≡ x → Parses before s from row r after
       unfolding es
-      by_edges (Err r) v =
-          let w = rows_stop (edge_row s) (row + 1 + c.value.n) c.value.m q 0 (sym t.answer ∙ v) in
-          faults {before = before} {after = after} (end_wrong _ _ _ v ∙ ap Err w.2) (text_edge nodes_are.0 w.1)
+      by_edges (Err x) v =
+          let w = rows_stop (edge_row s) (row + 1 + c.value.n) c.value.m q 0 v in
+          parses (answers v (end_wrong _ _ c.value refl) ∙ ap Err w.2) (faulty (text_edge nodes_are.0 w.1))
       by_edges (Ok x) v =
-          let g = rows_past (edge_row s) (row + 1 + c.value.n) c.value.m q 0 (sym t.answer ∙ v) in
+          let g = rows_past (edge_row s) (row + 1 + c.value.n) c.value.m q 0 v in
           by_split (ltb x (length s))
-          (λ l. faults {before = before} {after = after} (end_more _ _ _ v (ltb-true x (length s) l)) (text_extra nodes_are.0 g.0 l))
-          (λ l.
-          subst (λ (y : Parsed). Parses (slots before) s from row y (slots after)) (sym (end_done _ _ _ v (ltb-false x (length s) l)))
-          (counted (header_ranges s from e) (text_says nodes_are.0 g.0 l) (sym nodes_are.1) (sym g.1) so))
+          (λ l. parses (answers v (end_more _ _ c.value refl (ltb-true x (length s) l))) (faulty (text_extra nodes_are.0 g.0 l)))
+          (λ l. parses (answers v (end_done _ _ c.value refl (ltb-false x (length s) l))) (counted (header_ranges s from e) (text_says nodes_are.0 g.0 l) (sym nodes_are.1) (sym g.1) so))
 
-      pub parse_past : Parses (slots before) s from row (end_of ran (length s) (row + 1 + c.value.n + c.value.m) c.value) (slots after)
-      parse_past = by_edges ran refl
+      pub parse_past : Parses before s from row r after
+      parse_past = by_edges (end_from (edge_row s) (row + 1 + c.value.n) c.value.m q 0) refl

@@ -24,6 +24,7 @@ pub enum Refusal {
 }
 
 impl Refusal {
+    // A match, since a case that holds a place has no discriminant to cast.
     pub fn number(self) -> usize
         ensures { result ≡ (numbered self).number }
     {
@@ -54,7 +55,8 @@ impl Refusal {
     }
 }
 
-// The kinds of a node.
+// The kinds of a node. They are numbers and no enum, as are an edge's kinds and the marks: the slices that a caller lends hold them, any byte may stand
+// there, and refusals 2 and 3 say which may not (`NodeRule`, `EndsRule`).
 pub const KIND_CALL: u8 = 0;
 
 pub const KIND_RETURN: u8 = 1;
@@ -142,7 +144,7 @@ pub struct LentGraph<'a> {
     pub edges: LentEdges<'a>,
 }
 
-// The slices that a caller lends to be written.
+// The slices that a caller lends to be written. One struct for these and those to be read would need a type parameter for each width, at every use.
 #[derive(Drop)]
 pub struct NodePlaces<'a> {
     pub kinds: &'a mut [u8],

@@ -92,7 +92,8 @@ fn spread_all(
 }
 
 // The out sets of all edges, from the sums of the nodes. SURE is told by MAY's sums of what passes, `any`, where anything does. Whether they
-// were stored: nothing is where a slice has no place for each node or edge, or an edge's end is no node.
+// were stored: nothing is where a slice has no place for each node or edge, or an edge's end is no node. The sums are two slices, and no `Sums`, which
+// is lent to be written.
 pub fn spread(
     out: &mut [u64],
     system: System,

@@ -86,7 +86,7 @@ pub fn has_shape(size: Size, nodes: NodeLengths, edges: EdgeLengths) -> bool
     in_range(size) && nodes_long(size.n, nodes) && edges_long(size.m, edges)
 }
 
-// Whether the four slices of a result are as long as they have to be, by their lengths.
+// Whether the four slices of a result are as long as they have to be, by their lengths: the struct of these slices is the solver's, above this crate.
 pub fn results_long(
     n: usize,
     m: usize,

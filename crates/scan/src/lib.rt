@@ -106,7 +106,7 @@ pub fn number(s: &[u8], most: usize) -> Option<usize>
 // A set is held in so many bits.
 pub const SET_BITS: usize = 64;
 
-// A set of numbers: its bits where they hold every member.
+// A set of numbers: its bits where they hold every member. No Option, since a list that goes beyond them is a list all the same.
 #[derive(Clone, Copy, PartialEq, Eq)]
 pub enum Listed {
     Held(u64),

@@ -185,6 +185,7 @@ fn quick_grants(s: &[u8], at: usize) -> Option<At<Listed>>
     let mut bits: u64 = 0;
     let mut low: usize = 0;
     let mut i = at;
+    // Each position follows from the grant before it, so that there is no range to go over.
     while has_room(s, i, GRANT_ROOM) {
         let grant = short_number(s, i)?;
         if grant.value < low || scan::SET_BITS <= grant.value {

@@ -8,7 +8,7 @@ ghost use Rattle.worklist.specs.Worklist.{Linkable, lists, link_to, Links, SameL
 // The largest number that a place of a list or of the stack holds.
 pub const LARGEST: usize = 65535;
 
-// The mark of a node that is on the stack.
+// The mark of a node that is on the stack, in a slice of bytes that a caller lends.
 pub const MARKED: u8 = 1;
 
 // Whether all numbers of a list are below n. The loop has no early end, so that it is compiled to steps of several places.

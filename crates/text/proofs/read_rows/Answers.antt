@@ -8,9 +8,11 @@ loop-i-init g c = record { end = end_start _ _ _ _; slot = slot_start _ _ _ _ _ 
 pub returns-in_default : goal.returns-in_default
 returns-in_default g c =
     let h = c.loop-i-test.true in
-    let w = sym c.read_row.ensures ∙ c.in_default.is in
     let v = c.loop-i.invariant in
-    record { answer = end_stop _ _ _ _ h w v.end; so = slot_stop _ _ _ v.slot h w }
+    record {
+      answer = end_stop _ _ _ _ h (sym c.read_row.ensures ∙ c.in_default.is) v.end;
+      so = slot_stop _ _ _ v.slot h (sym c.read_row.ensures ∙ c.in_default.is);
+    }
 
 pub loop-i-preserved : goal.loop-i-preserved
 loop-i-preserved g c =

@@ -31,7 +31,7 @@ use Rattle.text.specs.Text.{Reading}
 use Rattle.text.specs.Text.{Meaning, says, wrong, text_at, node_columns, edge_columns, graph_from, Outcome, read, on_judged, on_meaning, outcome_from, reading_from, Stores, Tells, stored, refuses}
 use Rattle.text.specs.Text as text
 use Rattle.text.specs.Text.Kept.{columns_long, edge_columns_long, kept_all, kept_judges, kept_same}
-use Rattle.text.specs.Text.Parts.{slots, Parses, counted, faulty}
+use Rattle.text.specs.Text.Parts.{slots, Parses, counted, faulty, told}
 
 -- ---- what was parsed
 
@@ -46,6 +46,13 @@ pub record Said (c : Size) (before : Lent) (s : List ℕ) (from row : ℕ) (afte
 
 pub counted_is : {c : Size} {before : Lent} {s : List ℕ} {from row : ℕ} {after : Lent} → Parses before s from row (Ok c) after → Said c before s from row after
 counted_is (counted {ns = ns} {es = es} r e n m h) = record { ns = ns; es = es; ranges = r; means = e; n_is = n; m_is = m; so = h }
+
+pub faulty_is : {x : ℕ} {before : Lent} {s : List ℕ} {from row : ℕ} {after : Lent} → Parses before s from row (Err (why.Row x)) after → text_at s from row ≡ wrong x
+faulty_is (faulty e) = e
+
+-- what is refused of a text is a row
+faulty_row : {r : Refusal} {before : Lent} {s : List ℕ} {from row : ℕ} {after : Lent} → Parses before s from row (Err r) after → (x : ℕ) × (r ≡ why.Row x) × (text_at s from row ≡ wrong x)
+faulty_row (faulty {r = x} e) = (x, refl, e)
 
 pub stores_room : {before after : Lent} {ns : List Node} {es : List Edge} → Stores before ns es after → Room before → Room after
 stores_room {before} {after} {ns} {es} h r =
@@ -89,14 +96,16 @@ module _ {c : Size} {zeros held : Lent} {s : List ℕ} {from row : ℕ} (d : Sai
         (record { nodes = subst (λ v. NodesWritten before.nodes v after.nodes) nodes_are p.nodes; edges = subst (λ v. EdgesWritten before.edges v after.edges) edges_are p.edges })
 
   -- the slices had room, so it is the graph that is judged
-  said_taken : {before after : Lent} → Room held → Room before → HandsOver c held before (Ok tt) after → Tells (on_meaning (text_at s from row)) before (Ok c) after
-  said_taken {before} {after} p q (accepted _ h w) =
+  pub handed_tells : {before after : Lent} {j : Judged} → Room held → Room before → HandsOver c held before j after → Tells (on_meaning (text_at s from row)) before (told j c) after
+  handed_tells p q (cramped e) = absurd (e q)
+  handed_tells {before} {after} p q (accepted _ h w) =
       subst (λ (x : Size). Tells (on_meaning (text_at s from row)) before (Ok x) after) (λ i. size_of c.k (sym d.n_is i) (sym d.m_is i))
       (stored (means_so (held_judges p h)) (copied_so (held_judges p h) w))
+  handed_tells p q (refused _ h) = refuses (means_so (held_judges p h))
 
-  said_refused : {before after : Lent} {r : Refusal} → Room held → Room before → HandsOver c held before (Err r) after → Tells (on_meaning (text_at s from row)) before (Err r) after
-  said_refused p q (cramped e) = absurd (e q)
-  said_refused p q (refused _ h) = refuses (means_so (held_judges p h))
+-- what was parsed into has room as before
+pub counted_room : {zeros : Lent} (s : List ℕ) (from row : ℕ) {p : Parsed} {held : Lent} {c : Size} → Parses zeros s from row p held → p ≡ Ok c → Room zeros → Room held
+counted_room {zeros} s from row {held = held} h e z = stores_room (counted_is (subst (λ (q : Parsed). Parses zeros s from row q held) e h)).so z
 
 -- arrays made by repetition have room, and are lent as they are
 pub clear_room : {x : Slots} → Clear x → Room (slots x)
@@ -106,16 +115,16 @@ pub slots_handed : (g : LentGraph) {c : Size} (x : Slots) {before after : Lent} 
 slots_handed g x {before = before} {after = after} {j = j} e h = subst (λ (y : Graph). HandsOver y.size (record { nodes = y.nodes; edges = y.edges }) before j after) e h
 
 -- the answer, by what was parsed
-module _ {before zeros : Lent} (s : List ℕ) (from row : ℕ) {held : Lent} where
-  pub wrong_tells : {r : Refusal} → Parses zeros s from row (Err r) held → Tells (on_meaning (text_at s from row)) before (Err r) before
-  wrong_tells (faulty e) = refuses (ap on_meaning e)
+module _ {before zeros : Lent} (s : List ℕ) (from row : ℕ) {p : Parsed} {held : Lent} (h : Parses zeros s from row p held) where
+  pub wrong_tells : {r : Refusal} → p ≡ Err r → Tells (on_meaning (text_at s from row)) before (Err r) before
+  wrong_tells e =
+      let f = faulty_row (subst (λ (q : Parsed). Parses zeros s from row q held) e h) in
+      rw f.1 (refuses (ap on_meaning f.2))
 
-  module _ {c : Size} {after : Lent} (h : Parses zeros s from row (Ok c) held) (z : Room zeros) (k : Room before) where
-    pub taken_tells : HandsOver c held before (Ok tt) after → Tells (on_meaning (text_at s from row)) before (Ok c) after
-    taken_tells o = let d = counted_is h in said_taken d z (stores_room d.so z) k o
-
-    pub refused_tells : {r : Refusal} → HandsOver c held before (Err r) after → Tells (on_meaning (text_at s from row)) before (Err r) after
-    refused_tells o = let d = counted_is h in said_refused d z (stores_room d.so z) k o
+  pub counted_tells : {c : Size} {after : Lent} {j : Judged} {r : Reading} → p ≡ Ok c → Room zeros → Room before → HandsOver c held before j after → r ≡ told j c → Tells (on_meaning (text_at s from row)) before r after
+  counted_tells {after = after} e z k o f =
+      let d = counted_is (subst (λ (q : Parsed). Parses zeros s from row q held) e h) in
+      subst (λ (q : Reading). Tells (on_meaning (text_at s from row)) before q after) (sym f) (handed_tells d z (stores_room d.so z) k o)
 
 -- ---- the slices' lengths and the text's
 
@@ -201,29 +210,3 @@ reads_one (refuses {r = r} e) (refuses {r = t} f) = (ap Err (numbered_one r t (s
   where
     same_refused : text.refused (numbered r) ≡ text.refused (numbered t) → numbered r ≡ numbered t
     same_refused q = cc
-
--- ---- the answer by what was judged, and what is told of what was parsed
-
-abbrev pub told : Judged → Size → Reading
-told (Ok tt) c = Ok c
-told (Err r) c = Err r
-
-pub faulty_is : {x : ℕ} {before : Lent} {s : List ℕ} {from row : ℕ} {after : Lent} → Parses before s from row (Err (why.Row x)) after → text_at s from row ≡ wrong x
-faulty_is (faulty e) = e
-
--- what was parsed into has room as before
-pub counted_room : {zeros : Lent} (s : List ℕ) (from row : ℕ) {p : Parsed} {held : Lent} {c : Size} → Parses zeros s from row p held → p ≡ Ok c → Room zeros → Room held
-counted_room {zeros} s from row {held = held} h e z = stores_room (counted_is (subst (λ (q : Parsed). Parses zeros s from row q held) e h)).so z
-
--- the slices had room, so it is the graph that is judged
-pub handed_tells : {c : Size} {zeros held : Lent} {s : List ℕ} {from row : ℕ} (d : Said c zeros s from row held) (room : Room zeros) {before after : Lent} {j : Judged}
-    → Room held → Room before → HandsOver c held before j after → Tells (on_meaning (text_at s from row)) before (told j c) after
-handed_tells d room p q (cramped e) = absurd (e q)
-handed_tells d room p q (accepted k h w) = said_taken d room p q (accepted k h w)
-handed_tells d room p q (refused k h) = said_refused d room p q (refused k h)
-
-pub counted_tells : {before zeros : Lent} (s : List ℕ) (from row : ℕ) {p : Parsed} {held : Lent} (h : Parses zeros s from row p held) {c : Size} {after : Lent} {j : Judged} {r : Reading}
-    → p ≡ Ok c → Room zeros → Room before → HandsOver c held before j after → r ≡ told j c → Tells (on_meaning (text_at s from row)) before r after
-counted_tells {before = before} {zeros = zeros} s from row {held = held} h {after = after} e z k o f =
-    let d = counted_is (subst (λ (q : Parsed). Parses zeros s from row q held) e h) in
-    subst (λ (q : Reading). Tells (on_meaning (text_at s from row)) before q after) (sym f) (handed_tells d z (stores_room d.so z) k o)

@@ -105,7 +105,7 @@ impl Ground<'_> {
     }
 }
 
-// The functions from here to `settle` are compiled into `store`, once for each system: there the compiler knows the system and how many places
+// The functions from here to `spread` are compiled into `store`, once for each system: there the compiler knows the system and how many places
 // the sums have. Left as calls they take 23 to 43 % more instructions of the solver, on the texts of bench/peer.
 
 // A set arrives at a node, which goes on the stack where that changed a sum of it.
@@ -169,6 +169,7 @@ fn settle(sums: &mut Sums, ground: &Ground)
 }
 
 // The out sets of one system's edges.
+#[inline(always)]
 fn spread(out: &mut [u64], system: System, graph: &LentGraph, left: &Sums, sums: &Sums)
     requires acceptable { Acceptable (lent graph.now) }
     requires left { HasSums graph.now.size.n left.now }

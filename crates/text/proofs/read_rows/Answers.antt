@@ -1,4 +1,3 @@
-use Rattle.std.proofs.Common.{sym, ◌∙◌}
 use Rattle.text.specs.Text.Slots.{end_start, end_out, end_stop, end_step, slot_start, slot_out, slot_stop, slot_step}
 use Rattle.text.proofs.read_rows.Goals as goal
 
@@ -9,15 +8,13 @@ pub returns-in_default : goal.returns-in_default
 returns-in_default g c =
     let h = c.loop-i-test.true in
     let v = c.loop-i.invariant in
-    record {
-      answer = end_stop _ _ _ _ h (sym c.read_row.ensures ∙ c.in_default.is) v.end;
-      so = slot_stop _ _ _ v.slot h (sym c.read_row.ensures ∙ c.in_default.is);
-    }
+    let w = rw c.read_row.ensures at c.in_default.is in
+    record { answer = end_stop _ _ _ _ h w v.end; so = slot_stop _ _ _ v.slot h w }
 
 pub loop-i-preserved : goal.loop-i-preserved
 loop-i-preserved g c =
     let h = c.loop-i-test.true in
-    let w = sym c.read_row.ensures ∙ c.in-Some.is in
+    let w = rw c.read_row.ensures at c.in-Some.is in
     let v = c.loop-i.invariant in
     record { end = end_step _ _ _ _ h w v.end; slot = rw c.put_row.ensures (slot_step _ _ _ v.slot h w) }
 

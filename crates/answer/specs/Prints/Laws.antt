@@ -1,7 +1,6 @@
 -- One output for every text, and never too long; how an answer follows from those of the calls that are made for it.
 use Rattle.std.specs.Prelude.{ℕ, suc, ◌≤◌, ◌<◌, ◌≡◌, refl, List, length, take, replicate}
 use Rattle.std.proofs.Common.{sym, ap, ◌∙◌, subst, arith, lt-ltb}
-use Rattle.std.proofs.lemmas.List.Edits.{sets}
 use Rattle.std.proofs.lemmas.List.{length-replicate}
 use Rattle.truth.specs.Truth.Bools.{by_split}
 use Rattle.truth.specs.Truth.Tests.{says_true}

@@ -1,5 +1,5 @@
 -- The row is counted first, and written where there is room for it.
-use Rattle.std.proofs.Common.{rules, arith, refl, sym}
+use Rattle.std.proofs.Common.{rules, arith, refl}
 use Rattle.refusals.specs.Writes.Laws.{writes_none, writes_added}
 use Rattle.refusals.proofs.write_refusal.Goals as goal
 

@@ -12,7 +12,8 @@ pub(crate) enum Input {
     TooLong,
 }
 
-// Reads until the buffer is full or nothing more comes, and answers how many bytes came.
+// Reads until the buffer is full or nothing more comes, and answers how many bytes came. How many come at a time is the reader's choice, so there is
+// nothing that a `for` could count.
 fn read_full<R: Read>(input: &mut R, buffer: &mut [u8]) -> io::Result<usize>
     ensures fits { IfOk result (λ n. n ≤ length buffer.new) }
     ensures bytes { IfOk result (λ n. Consumes (R.remaining input.old) (R.remaining input.new) (take n buffer.new)) }

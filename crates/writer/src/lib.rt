@@ -13,6 +13,7 @@ pub struct Writer<'a> {
 }
 
 impl<'a> Writer<'a> {
+    // Two sums: one that saturates for every byte takes 3 % more instructions where large sets are printed.
     pub fn put(&mut self, b: u8)
         ensures { Adds (b ∷ []) self.old self.new }
     {

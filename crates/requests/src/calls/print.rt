@@ -38,7 +38,7 @@ pub(crate) fn print_result(out: &mut Out, held: &Held, long: usize, graph: &Lent
     result_to(out, &mut buffer, long, held, graph);
 }
 
-// The refusal of a number, with the place where it names one.
+// The refusal of a number, with the place where it names one. A match, as `Refusal::number` is: a case with a place in it has no discriminant.
 fn numbered(number: usize, place: usize) -> Refusal {
     match number {
         1 => Refusal::Shape,

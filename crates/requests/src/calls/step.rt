@@ -26,6 +26,7 @@ fn step_on(
     height
 }
 
+// The prover covers no part of an array that lies in a struct behind a reference, so that the array is handed here whole.
 fn step_lent(
     out: &mut Out,
     places: &mut [u16],

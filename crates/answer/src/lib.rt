@@ -9,7 +9,8 @@ ghost use Rattle.answer.specs.Prints.Parts.{Places, Held, WritesRead};
 
 use graph::{GraphPlaces, LentEdges, LentGraph, LentNodes, Refusal, Size};
 
-// The graph of this size that stands in the first places.
+// The graph of this size that stands in the first places. `handover` has one of its own, of slices to be read: shared they would be public, and a public call
+// has no `requires`.
 fn first_places<'a>(held: &'a GraphPlaces, size: Size) -> LentGraph<'a>
     requires { Places size (places held.now) }
     ensures { lent result ≡ held_graph size (places held.now) }

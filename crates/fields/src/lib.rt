@@ -24,6 +24,7 @@ const CALL_EDGE: usize = graph::CALL as usize;
 
 const TRANSFER_EDGE: usize = graph::TRANSFER as usize;
 
+// Both marks of a node are one number, as `says` has them.
 pub const MARK_PRIVILEGED: usize = 1;
 
 pub const MARK_ENTRY: usize = 2;

@@ -9,6 +9,7 @@ ghost use Rattle.graph.specs.Judge.{Judges};
 
 use graph::{LentGraph, Node, Refusal};
 
+// The solver has one of its own: shared it would be public, and a public call has no `requires`.
 fn node(graph: &LentGraph, i: usize) -> Node
     requires shape { Shape (lent graph.now) }
     requires i_in_bounds { i < graph.now.size.n }

@@ -129,7 +129,7 @@ pub fn quick(
 ) -> Result<Inspection, Refusal>
     ensures { QuickAnswers (lent graph.now) sets.now.denied.now sets.now.granted.now stack.now height p result }
 {
-    if !verdict::sets_long(graph.size.n, sets) {
+    if !verdict::sets_long(graph.size.n, sets.denied.len(), sets.granted.len()) {
         return Err(Refusal::Shape);
     }
     judge_asked(graph, p, graph.size.k, stack, height)?;

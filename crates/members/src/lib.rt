@@ -8,7 +8,7 @@ ghost use Rattle.members.specs.Members.{members_from, after_first, spaced, set_b
 use sets::Set;
 use writer::Writer;
 
-// The members of a set, lowest first, and how many.
+// The members of a set, lowest first, and how many: in 64 places before they are written, as docs/DECISIONS.md has it (The rows).
 fn list_members(list: &mut [u8], set: u64) -> usize
     requires { length list.old ≡ 64 }
     ensures few { result ≤ 64 }

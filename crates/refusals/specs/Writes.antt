@@ -19,7 +19,7 @@ refusal_row number place = refused_bytes ++ decimal number ++ 44 ∷ decimal pla
 abbrev pub refusal_bytes : Refusal → List ℕ
 refusal_bytes r = refusal_row (numbered r).number (numbered r).place
 
--- Ok at the start of a buffer, and how many; or refusal 10 where it is too short for them, and nothing stored.
+-- Bytes at the start of a buffer, and how many; or refusal 10 where it is too short for them, and nothing stored.
 pub data Writes (bytes before : List ℕ) : Written → List ℕ → Type 0 where
   written : length bytes ≤ length before → Writes bytes before (Ok (length bytes)) (sets before 0 bytes)
   too_short : (length bytes ≤ length before → ⊥) → Writes bytes before (Err why.NoRoom) before

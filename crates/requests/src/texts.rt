@@ -6,6 +6,7 @@ use super::numbers::read_numbers;
 use super::show::Out;
 use graph::{Edge, EdgePlaces, GraphPlaces, Node, NodePlaces, Size};
 
+// By hand and no Display, since only rows of this program show a set so.
 fn print_set(out: &mut Out, bits: u64) {
     let mut some = false;
     for p in 0..64u64 {

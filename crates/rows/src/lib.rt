@@ -98,7 +98,8 @@ fn is_long(n: usize, kinds: usize, checks: usize, denied: usize, granted: usize)
     0 < n && n <= graph::MOST_NODES && kinds == n && checks == n && denied == n && granted == n
 }
 
-// How many bytes the result takes.
+// How many bytes the result takes. Counted and written by two calls, here and in `refusals`: a function over both would be handed what is put as a closure,
+// and be no shorter.
 fn count_result(shown: &Shown) -> usize
     requires { IsLong shown.now }
     ensures { result ≡ length (shown_bytes shown.now) }

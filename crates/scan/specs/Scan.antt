@@ -10,7 +10,7 @@ use Rattle.std.specs.List.{prefix_len, slice_split}
 use Rattle.std.specs.Int.Bits.{bit_or}
 use Rattle.scan.specs.declared.At.{At}
 use Rattle.scan.specs.declared.Class.{Class}
-use Rattle.scan.specs.declared.Class.TheVariants.{Plain, Inside}
+use Rattle.scan.specs.declared.Class.TheVariants.{Plain, Inside, Word}
 use Rattle.scan.specs.declared.Listed.{Listed}
 use Rattle.scan.specs.declared.Listed.TheVariants.{Held, Beyond}
 
@@ -40,10 +40,11 @@ read_to x next = record { value = x; next = next }
 
 -- ---- Runs and parts
 
--- What a field without quotes may hold, and what stands between quotes.
+-- What a field without quotes may hold, what stands between quotes, and what stands between the spaces of a list.
 abbrev pub belongs : Class → ℕ → Bool
 belongs Plain b = cond (eqb b quote) false (cond (eqb b comma) false (cond (eqb b cr) false (not (eqb b lf))))
 belongs Inside b = not (eqb b quote)
+belongs Word b = not (eqb b space)
 
 -- How many bytes of a class a list begins with.
 unfoldable pub run : Class → List ℕ → ℕ

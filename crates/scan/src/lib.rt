@@ -20,6 +20,8 @@ pub enum Class {
     Plain,
     // What stands between quotes: no quote.
     Inside,
+    // What stands between the spaces of a list: no space.
+    Word,
 }
 
 // Most bytes are above the comma, and settled by one test.
@@ -36,6 +38,7 @@ impl Class {
         match self {
             Class::Plain => is_plain(b),
             Class::Inside => b != b'"',
+            Class::Word => b != b' ',
         }
     }
 }

@@ -17,6 +17,11 @@ slices denied granted may_out sure_out = record { denied = denied; granted = gra
 abbrev pub stored : SetPlaces → Slices
 stored x = slices x.denied.now x.granted.now x.may.now x.sure.now
 
+-- The places stay those that were lent.
+abbrev pub SameSets : SetPlaces → SetPlaces → Type 0
+SameSets x z =
+    (z.denied.ghost_name ≡ x.denied.ghost_name) × ((z.granted.ghost_name ≡ x.granted.ghost_name) × ((z.may.ghost_name ≡ x.may.ghost_name) × (z.sure.ghost_name ≡ x.sure.ghost_name)))
+
 -- The result slices are as long as they have to be.
 abbrev pub Long : Graph → Slices → Type 0
 Long g s = ResultsLong g.size.n g.size.m (length s.denied) (length s.granted) (length s.may_out) (length s.sure_out)

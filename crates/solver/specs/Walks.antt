@@ -11,6 +11,7 @@ use Rattle.flow.specs.declared.Leaving.{Leaving}
 use Rattle.solver.specs.declared.Ground.{Ground}
 use Rattle.solver.specs.declared.Brought.{Brought}
 use Rattle.solver.specs.declared.SetPlaces.{SetPlaces}
+use Rattle.solver.specs.Solve.{SameSets}
 
 -- For SURE, MAY's out sets, and MAY's sums of what passes each check.
 abbrev pub wide : Ground → List ℕ
@@ -73,3 +74,4 @@ pub record NodesStored (g : Graph) (by_may by_sure : Sums) (old new : SetPlaces)
   pub granted_long : length new.granted.now ≡ length old.granted.now
   pub may : new.may.now ≡ old.may.now
   pub sure : new.sure.now ≡ old.sure.now
+  pub same : SameSets old new

@@ -5,7 +5,7 @@ ghost use Rattle.std.specs.Prelude.{◌≡◌, ◌≤◌, ◌<◌, length, get_o
 ghost use Rattle.graph.specs.Graph.{node_at, Shape, Acceptable, Content};
 ghost use Rattle.graph.specs.Lent.{lent, node_numbers};
 ghost use Rattle.flow.specs.Walk.{system_of, counts_num, arrive};
-ghost use Rattle.solver.specs.Solve.{Long, stored, Solves};
+ghost use Rattle.solver.specs.Solve.{Long, stored, SameSets, Solves};
 ghost use Rattle.solver.specs.Walks.{Walkable, HasSums, Leaves, Brings, state_of, sent, Walks, Settles, Carries, NodesStored};
 
 use flow::{Arrived, Leaving, System};
@@ -200,7 +200,8 @@ fn store_nodes(into: &mut SetPlaces, graph: &LentGraph, may: &Sums, sure: &Sums)
 fn store(graph: &LentGraph, into: &mut SetPlaces)
     requires acceptable { Acceptable (lent graph.now) }
     requires long { Long (lent graph.now) (stored into.old) }
-    ensures { Content (lent graph.now) (stored into.new) }
+    ensures content { Content (lent graph.now) (stored into.new) }
+    ensures same_places { SameSets into.old into.new }
 {
     let mut head = [0u16; graph::MOST_NODES];
     let mut prev = [0u16; graph::MOST_EDGES];
@@ -245,7 +246,8 @@ fn store(graph: &LentGraph, into: &mut SetPlaces)
 // Solves both systems, and stores the denied and granted sets of every node and the MAY and SURE out sets of every edge. A refusal
 // stores nothing.
 pub fn solve(graph: &LentGraph, into: &mut SetPlaces) -> Result<(), Refusal>
-    ensures { Solves (lent graph.now) (stored into.old) result (stored into.new) }
+    ensures solves { Solves (lent graph.now) (stored into.old) result (stored into.new) }
+    ensures same_places { SameSets into.old into.new }
 {
     let long = rules::results_long(
         graph.size.n,

@@ -47,11 +47,11 @@ pub fn judge_check(denied: bool, granted: bool) -> Finding
     }
 }
 
-// Whether the denied and granted slices are as long as they have to be.
-pub fn sets_long(n: usize, sets: &LentSets) -> bool
-    ensures { Says (SetsLong n (length sets.now.denied.now) (length sets.now.granted.now)) result }
+// Whether the denied and granted slices are as long as they have to be, by their lengths.
+pub fn sets_long(n: usize, denied: usize, granted: usize) -> bool
+    ensures { Says (SetsLong n denied granted) result }
 {
-    sets.denied.len() == n && sets.granted.len() == n
+    denied == n && granted == n
 }
 
 // The verdict at a check of an accepted graph.
@@ -74,7 +74,7 @@ pub fn verdict(graph: &LentGraph, sets: &LentSets, node: usize) -> Result<Findin
     ensures { Rules (lent graph.now) sets.now.denied.now sets.now.granted.now node result }
 {
     let n = graph.size.n;
-    if !sets_long(n, sets) {
+    if !sets_long(n, sets.denied.len(), sets.granted.len()) {
         return Err(Refusal::Shape);
     }
     judge::check(graph)?;

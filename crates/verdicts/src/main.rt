@@ -51,6 +51,7 @@ fn print_from<W: Write>(streams: &mut Streams<W>, out: &mut [u8], text: &[u8]) -
     true
 }
 
+// A function of its own beside `print_long`, which promises more: there the buffer is long enough for every answer.
 fn print_short<W: Write>(streams: &mut Streams<W>, text: &[u8]) -> bool
     ensures untouched { result ≡ false → streams.new ≡ streams.old }
     ensures answered { result ≡ true → streams.new.has_complained ≡ false → Answered text.now (W.contents streams.old.output) (W.contents streams.new.output) }

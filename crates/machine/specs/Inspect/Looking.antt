@@ -45,23 +45,38 @@ looking_start look s height = record { left = omega arith; same = ap (looked_at 
 
 -- The frame at place h - 1 is the next one.
 module _ {look : List ℕ → Inspected} {s : List ℕ} {height h : ℕ} (l : Looking look s height h) (some : 0 < h) where
-  next : (v : Option Bool) → AtFrame look (get_or s (h - 1) 0) v → look (stack_of s height) ≡ further (height - h) (decided_by v (look (stack_of s (h - 1))))
-  next v a = l.same ∙ ap (λ (x : List ℕ). further (height - h) (look x)) (topped s h some) ∙ ap (further (height - h)) (a (stack_of s (h - 1)))
+  next : {x : Inspected} → look (get_or s (h - 1) 0 ∷ stack_of s (h - 1)) ≡ x → look (stack_of s height) ≡ further (height - h) x
+  next e = l.same ∙ ap (λ (x : List ℕ). further (height - h) (look x)) (topped s h some) ∙ ap (further (height - h)) e
 
-  here : {b : Bool} → AtFrame look (get_or s (h - 1) 0) (Some b) → look (stack_of s height) ≡ looked_at b (height - (h - 1))
-  here {b} a = next (Some b) a ∙ ap (looked_at b) (omega (arith, l.left, some))
+  -- it decides
+  here : {b : Bool} → look (get_or s (h - 1) 0 ∷ stack_of s (h - 1)) ≡ decided b → look (stack_of s height) ≡ looked_at b (height - h + 1)
+  here e = next e
 
-  pub looking_passes : AtFrame look (get_or s (h - 1) 0) (Some true) → SaysSo (answer.Passes (height - (h - 1))) (look (stack_of s height))
-  looking_passes a = says_passes (here a)
+  pub looking_passes : look (get_or s (h - 1) 0 ∷ stack_of s (h - 1)) ≡ decided true → SaysSo (answer.Passes (height - h + 1)) (look (stack_of s height))
+  looking_passes e = says_passes (here e)
 
-  pub looking_fails : AtFrame look (get_or s (h - 1) 0) (Some false) → SaysSo (answer.Fails (height - (h - 1))) (look (stack_of s height))
-  looking_fails a = says_fails (here a)
+  pub looking_fails : look (get_or s (h - 1) 0 ∷ stack_of s (h - 1)) ≡ decided false → SaysSo (answer.Fails (height - h + 1)) (look (stack_of s height))
+  looking_fails e = says_fails (here e)
 
-  pub looking_below : AtFrame look (get_or s (h - 1) 0) None → Looking look s height (h - 1)
-  looking_below a = record {
+  -- the frames below it decide
+  pub looking_below : look (get_or s (h - 1) 0 ∷ stack_of s (h - 1)) ≡ below (look (stack_of s (h - 1))) → Looking look s height (h - 1)
+  looking_below e = record {
     left = omega (arith, l.left);
-    same = next None a ∙ ap (looked_at (look (stack_of s (h - 1))).passes) (omega (arith, l.left, some));
+    same = next e ∙ ap (looked_at (look (stack_of s (h - 1))).passes) (omega (arith, l.left, some));
   }
+
+  -- the same by what its node says, where the frames that were looked at are counted from the place
+  counted : height - h + 1 ≡ height - (h - 1)
+  counted = omega (arith, l.left, some)
+
+  pub node_passes : AtFrame look (get_or s (h - 1) 0) (Some true) → SaysSo (answer.Passes (height - (h - 1))) (look (stack_of s height))
+  node_passes a = says_passes (here (a (stack_of s (h - 1))) ∙ ap (looked_at true) counted)
+
+  pub node_fails : AtFrame look (get_or s (h - 1) 0) (Some false) → SaysSo (answer.Fails (height - (h - 1))) (look (stack_of s height))
+  node_fails a = says_fails (here (a (stack_of s (h - 1))) ∙ ap (looked_at false) counted)
+
+  pub node_below : AtFrame look (get_or s (h - 1) 0) None → Looking look s height (h - 1)
+  node_below a = looking_below (a (stack_of s (h - 1)))
 
 -- no frame is left
 pub looking_end : {look : List ℕ → Inspected} {s : List ℕ} {height h : ℕ} → Looking look s height h → h ≤ 0 → look [] ≡ bottom → SaysSo (answer.Passes height) (look (stack_of s height))

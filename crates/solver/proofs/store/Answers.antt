@@ -74,9 +74,9 @@ settle-requires-2-clause-walkable c =
       any_long = c.settle.ensures.sums.past_long;
     }
 
-pub returns : goal.returns
-returns c =
-    let k = (goal.at.returns c).After-spread in
+pub returns-clause-content : goal.returns-clause-content
+returns-clause-content c =
+    let k = (goal.at.returns-clause-content c).After-spread in
     let s = c.settle-2.ensures.settled in
     let by_sure : Settled (lent c.args.graph.now) sure c.spread.new.out c.settle.new.sums.past.now c.settle-2.new.sums.ins.now c.settle-2.new.sums.past.now c.spread-2.new.out =
     record { setting = sure_setting k; good = s.good; quiet = s.quiet; stored = c.spread-2.ensures } in

@@ -6,10 +6,13 @@ ghost use Rattle.truth.specs.Truth.{Says};
 ghost use Rattle.writer.specs.Writer.{Adds};
 ghost use Rattle.members.specs.Members.{set_bytes};
 ghost use Rattle.rows.specs.Result.{verdict_bytes, row_bytes, Long, WritesResult};
-ghost use Rattle.rows.specs.Result.Shown.{IsLong, shown_rows, shown_bytes};
+ghost use Rattle.rows.specs.Result.Shown.{shown_rows, shown_bytes};
+
+mod shown;
 
 use graph::Refusal;
 use sets::Set;
+use shown::Shown;
 use verdict::LentSets;
 use writer::Writer;
 
@@ -25,15 +28,6 @@ struct Row {
     check: u16,
     denied: u64,
     granted: u64,
-}
-
-// The slices of n nodes that the rows show.
-#[derive(Clone, Copy)]
-struct Shown<'a> {
-    n: usize,
-    kinds: &'a [u8],
-    checks: &'a [u16],
-    sets: LentSets<'a>,
 }
 
 // A comma and a set.
@@ -69,7 +63,6 @@ fn put_row(out: &mut Writer, node: usize, row: Row)
 
 // The rows of all nodes.
 fn put_rows(out: &mut Writer, shown: &Shown)
-    requires { IsLong shown.now }
     ensures { Adds (shown_rows shown.now shown.now.n) out.old out.new }
 {
     for node in 0..shown.n {
@@ -84,7 +77,6 @@ fn put_rows(out: &mut Writer, shown: &Shown)
 }
 
 fn put_result(out: &mut Writer, shown: &Shown)
-    requires { IsLong shown.now }
     ensures { Adds (shown_bytes shown.now) out.old out.new }
 {
     out.put_all(b"node,denied,granted,verdict\r\n");
@@ -101,7 +93,6 @@ fn is_long(n: usize, kinds: usize, checks: usize, denied: usize, granted: usize)
 // How many bytes the result takes. Counted and written by two calls, here and in `refusals`: a function over both would be handed what is put as a closure,
 // and be no shorter.
 fn count_result(shown: &Shown) -> usize
-    requires { IsLong shown.now }
     ensures { result ≡ length (shown_bytes shown.now) }
 {
     let mut rows = Writer {
@@ -114,7 +105,6 @@ fn count_result(shown: &Shown) -> usize
 
 // Whether a buffer of so many places is long enough. The rows are counted only where it may be too short.
 fn has_room(places: usize, shown: &Shown) -> bool
-    requires { IsLong shown.now }
     ensures { Says (length (shown_bytes shown.now) ≤ places) result }
 {
     shown.n * ROW_MOST + HEADER_LONG <= places || count_result(shown) <= places

@@ -5,4 +5,4 @@ use Rattle.rows.specs.Result.Rows.{shown_short}
 use Rattle.rows.proofs.count_result.Goals as goal
 
 pub returns : goal.returns
-returns c = adds_count c.put_result.ensures refl (lit≤ tt) (omega (arith, shown_short c.args.shown.now, c.requires.few))
+returns c = adds_count c.put_result.ensures refl (lit≤ tt) (omega (arith, shown_short c.args.shown.now, c.args.shown.now.long.few))

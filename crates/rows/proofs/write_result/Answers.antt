@@ -8,9 +8,6 @@ use Rattle.rows.proofs.write_result.Goals as goal
 pub returns-then-not-is_long : goal.returns-then-not-is_long
 returns-then-not-is_long c = shape (says_false c.is_long.ensures c.if-not-is_long.true)
 
-pub has_room-requires : goal.has_room-requires
-has_room-requires c = says_true c.is_long.ensures c.if-not-is_long.false
-
 pub returns-then-not-has_room : goal.returns-then-not-has_room
 returns-then-not-has_room c = result (says_true c.is_long.ensures c.if-not-is_long.false) (too_short (says_false c.has_room.ensures c.if-not-has_room.true))
 

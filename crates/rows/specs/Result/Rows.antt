@@ -15,7 +15,7 @@ use Rattle.writer.specs.Writer.Places.{puts_none, puts_then, puts_as, adds_none,
 use Rattle.writer.specs.Writer.Numbers.{decimal_short}
 use Rattle.members.specs.Members.{set_bytes}
 use Rattle.members.specs.Members.Laws.{set_short}
-use Rattle.rows.specs.declared.Shown.{Shown}
+use Rattle.rows.specs.declared.shown.Shown.{Shown}
 use Rattle.rows.specs.Result.Shown.{shown_bytes}
 use Rattle.rows.specs.Result.{verdict_bytes, row_bytes, header_bytes, rows_from, result_bytes}
 

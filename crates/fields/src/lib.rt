@@ -44,7 +44,7 @@ pub enum Form {
     Empty,
 }
 
-// The byte of a field of one byte, or 0.
+// The byte of a field of one byte, or 0, as `letter_of` has it.
 fn letter(l: &[u8]) -> u8
     ensures { result ≡ letter_of l.now }
 {

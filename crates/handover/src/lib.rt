@@ -45,7 +45,7 @@ fn store_edges(into: &mut EdgePlaces, held: &LentEdges, m: usize)
     copy(into.ways, held.ways, m);
 }
 
-// The graph that the first places of slices with room hold.
+// The graph that the first places of slices with room hold. `answer` has one of its own: shared they would be public, and a public call has no `requires`.
 fn first_places<'a>(held: &LentGraph<'a>) -> LentGraph<'a>
     requires { Ranges held.now.size × Room (lists_lent held.now) }
     ensures { lent result ≡ held_graph held.now.size (lists_lent held.now) }

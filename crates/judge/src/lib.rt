@@ -24,6 +24,7 @@ fn node(graph: &LentGraph, i: usize) -> Node
     }
 }
 
+// Of a graph that has its shape, which is known of four functions here and of no struct: one for these alone would be no plainer.
 fn first_bad_node(graph: &LentGraph) -> Option<usize>
     requires { Shape (lent graph.now) }
     ensures { Finds (NodeObeys (lent graph.now)) graph.now.size.n result }

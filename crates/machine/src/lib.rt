@@ -17,7 +17,7 @@ use graph::{LentGraph, LentNodes, Refusal};
 use sets::Set;
 use verdict::LentSets;
 
-// Whether the permission passes, with how many frames were looked at, the deciding one included.
+// Whether the permission passes, with how many frames were looked at, the deciding one included. No Result, since a permission that fails is an answer.
 #[derive(Clone, Copy, PartialEq, Eq)]
 pub enum Inspection {
     Passes(usize),

@@ -57,7 +57,7 @@ pub fn run_end(s: &[u8], at: usize, class: Class) -> usize
     at + run_len(field(s, at, s.len()), class)
 }
 
-// The byte at a position, or 0 past the end.
+// The byte at a position, or 0 past the end: no Option, since the definitions read a text so (`get_or`).
 pub fn peek(s: &[u8], at: usize) -> u8
     ensures { result ≡ get_or s.now at 0 }
 {

@@ -149,7 +149,7 @@ fn ends_row(s: &[u8], at: usize) -> bool
     s[at] == b'\r' && s[at + 1] == b'\n'
 }
 
-// The front of a node row whose fields are all short.
+// The front of a node row whose fields are all short. As `records::read_lead`, but by the bytes: quick ways stand beside the general function (CONTRIBUTING.md).
 #[tactic(auto, unfolding(records::specs::Records::lead_at))]
 fn quick_lead(s: &[u8], at: usize, i: usize) -> Option<At<Lead>>
     ensures { Quick (lead_at s.now at i) result }

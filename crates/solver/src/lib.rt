@@ -23,7 +23,7 @@ pub struct SetPlaces<'a> {
 }
 
 // What a walk goes over: a graph, the lists of its edges, and what the other system left: its sums, and MAY's out sets. MAY itself looks at
-// neither.
+// neither. What has to be known of it is a clause (`Walkable`), since the prover covers no ghost field beside a `&mut`, which it holds structs of.
 #[derive(Clone, Copy)]
 struct Ground<'a> {
     system: System,
@@ -42,6 +42,7 @@ struct Brought {
 }
 
 impl Ground<'_> {
+    // `judge` has one of its own: shared it would be public, and a public call has no `requires`.
     fn node(&self, i: usize) -> Node
         requires walkable { Walkable self.now }
         requires i_in_bounds { i < self.now.graph.size.n }
@@ -180,7 +181,7 @@ fn spread(out: &mut [u64], system: System, graph: &LentGraph, left: &Sums, sums:
     round::spread(out, system, graph, left.past, sums.ins, sums.past);
 }
 
-// The denied and granted sets of all nodes, from the sums of both systems.
+// The denied and granted sets of all nodes, from the sums of both systems. (`sums::begin_all` says why it has a loop of this shape, too.)
 fn store_nodes(into: &mut SetPlaces, graph: &LentGraph, may: &Sums, sure: &Sums)
     requires shape { Shape (lent graph.now) }
     requires long { Long (lent graph.now) (stored into.old) }

@@ -5,7 +5,8 @@ ghost use Rattle.std.specs.Io.KnownBytes.{Appends, Consumes, IsAtEnd};
 use std::io::{self, Read, Stderr, Write};
 use std::process::ExitCode;
 
-// What was read of the input: so many bytes, and its end was seen; or there is more than the buffer has places.
+// What was read of the input: so many bytes, and its end was seen; or there is more than the buffer has places. No Option, since
+// both are answered.
 #[derive(Drop)]
 pub(crate) enum Input {
     Whole(usize),

@@ -27,7 +27,7 @@ pub fn all_below(list: &[u16], n: usize) -> bool
 }
 
 // Lists of edges: a node's starts at `head`, and an edge's goes on at `prev`, from the last edge to the first. A place holds one more than
-// an edge's number, and 0 at the end.
+// an edge's number, and 0 at the end: memory is fixed, and a list for each node would need a heap.
 #[derive(Drop)]
 pub struct EdgeLists<'a> {
     pub head: &'a mut [u16],
@@ -55,7 +55,8 @@ impl EdgeLists<'_> {
         }
     }
 
-    // The edges that leave each node. Whether they were stored: nothing is where the slices have no room for them.
+    // The edges that leave each node. Whether they were stored: nothing is where the slices have no room for them. A truth value, as `Links` has it, since one
+    // thing alone can refuse.
     pub fn link(&mut self, froms: &[u16]) -> bool
         ensures linked { Links froms.now self.old.head.now self.old.prev.now result (lists self.new.head.now self.new.prev.now) }
         ensures slices { SameLists self.old self.new }

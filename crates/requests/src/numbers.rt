@@ -130,5 +130,10 @@ impl<T: Entry, const N: usize> Lent<T, N> {
 
 // Whether the places from `from` on hold what every place held before the call.
 pub(crate) fn keeps<T: Entry>(places: &[T], from: usize) -> bool {
-    places.iter().skip(from).all(|&x| x == T::BLANK)
+    for &x in &places[from.min(places.len())..] {
+        if x != T::BLANK {
+            return false;
+        }
+    }
+    true
 }

@@ -9,7 +9,7 @@ returns-then-n-gt-MOST_NODES c =
 pub returns-in_err-solve : goal.returns-in_err-solve
 returns-in_err-solve c =
     let e : (c.from_residual.result ≡ Err c.in_err-solve.field-0.0) = search rules in
-    rw e (graph_unwritten _ (record { denied_long = search rules; granted_long = search rules; may_long = search rules; sure_long = search rules }) c.in_err-solve.ensures)
+    rw e (graph_unwritten _ (record { denied_long = search rules; granted_long = search rules; may_long = search rules; sure_long = search rules }) c.in_err-solve.ensures.solves)
 
 pub returns : goal.returns
-returns c = graph_written _ (record { denied_long = search rules; granted_long = search rules; may_long = search rules; sure_long = search rules }) c.in_ok-solve.ensures c.write_result.ensures
+returns c = graph_written _ (record { denied_long = search rules; granted_long = search rules; may_long = search rules; sure_long = search rules }) c.in_ok-solve.ensures.solves c.write_result.ensures

@@ -55,8 +55,8 @@ pub fn end_text(
     Ok(counts)
 }
 
-// Arrays with a place for every node that a graph may have, and for every edge: one for each slice that document 01 has of them, so that they can be lent
-// as those.
+// Arrays with a place for every node that a graph may have, and for every edge: one for each slice that docs/RULES.md has of them, so that they can be
+// lent as those.
 #[derive(Drop)]
 pub struct NodeSlots {
     pub kinds: [u8; MOST_NODES],

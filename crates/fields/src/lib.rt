@@ -13,7 +13,7 @@ use scan::At;
 // A number in a field has at most so many digits.
 pub const MOST_DIGITS: usize = 4;
 
-// What a field says, by number: a node's kind, an edge's, a node's marks. The slices that a caller lends hold these numbers (document 01).
+// What a field says, by number: a node's kind, an edge's, a node's marks. The slices that a caller lends hold these numbers (docs/RULES.md).
 const CALL_NODE: usize = graph::KIND_CALL as usize;
 
 const RETURN_NODE: usize = graph::KIND_RETURN as usize;

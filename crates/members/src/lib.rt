@@ -1,8 +1,8 @@
 // The members of a set as bytes.
 #![tactic(auto)]
 
-ghost use Rattle.std.specs.Prelude.{◌≡◌, ◌≤◌, length, take};
-ghost use Rattle.writer.specs.Writer.{Adds};
+ghost use Rattle.std.specs.Prelude.{◌≡◌, length};
+ghost use Rattle.writer.specs.Writer.{Adds, Puts};
 ghost use Rattle.members.specs.Members.{members_from, after_first, spaced, set_bytes};
 
 use sets::Set;
@@ -11,8 +11,7 @@ use writer::Writer;
 // The members of a set, lowest first, and how many: in 64 places before they are written, as docs/DECISIONS.md has it (The rows).
 fn list_members(list: &mut [u8], set: u64) -> usize
     requires { length list.old ≡ 64 }
-    ensures few { result ≤ 64 }
-    ensures listed { take result list.new ≡ members_from set 0 64 }
+    ensures { Puts (members_from set 0 64) list.old 0 result list.new }
 {
     let mut count = 0;
     for p in 0..Set::LIMIT - set.leading_zeros() as usize {
@@ -28,6 +27,8 @@ fn list_members(list: &mut [u8], set: u64) -> usize
 fn put_rest(out: &mut Writer, list: &[u8])
     ensures { Adds (after_first list.now) out.old out.new }
 {
+    // Both are numbers of 64 bits, which is known where they are read.
+    prove!(out.at <= usize::MAX && out.out.len() <= usize::MAX);
     for &p in list {
         out.put(b' ');
         out.put_number(p as usize);
@@ -38,6 +39,8 @@ fn put_rest(out: &mut Writer, list: &[u8])
 fn put_list(out: &mut Writer, list: &[u8])
     ensures { Adds (spaced list.now) out.old out.new }
 {
+    // As in `put_rest`.
+    prove!(out.at <= usize::MAX && out.out.len() <= usize::MAX);
     if let Some((first, rest)) = list.split_first() {
         out.put_number(*first as usize);
         put_rest(out, rest);

@@ -42,6 +42,8 @@ fn put_set_field(out: &mut Writer, set: u64)
 fn put_verdict(out: &mut Writer, row: Row)
     ensures { Adds (verdict_bytes row.kind row.check row.denied row.granted) out.old out.new }
 {
+    // Both are numbers of 64 bits, which is known where they are read.
+    prove!(out.at <= usize::MAX && out.out.len() <= usize::MAX);
     if row.kind == graph::KIND_CHECK {
         let p = row.check as usize;
         let fails = Set { bits: row.denied }.has(p);
@@ -65,6 +67,8 @@ fn put_row(out: &mut Writer, node: usize, row: Row)
 fn put_rows(out: &mut Writer, shown: &Shown)
     ensures { Adds (shown_rows shown.now shown.now.n) out.old out.new }
 {
+    // As in `put_verdict`.
+    prove!(out.at <= usize::MAX && out.out.len() <= usize::MAX);
     for node in 0..shown.n {
         let row = Row {
             kind: shown.kinds[node],

@@ -37,6 +37,22 @@ fn send<W: Write>(streams: &mut Streams<W>, out: &[u8])
     );
 }
 
+// What is written for a text is what the text prints.
+fn print<W: Write>(streams: &mut Streams<W>, text: &[u8], out: &[u8])
+    requires { Prints text.now out.now }
+    ensures { streams.new.has_complained ≡ false → Answered text.now (W.contents streams.old.output) (W.contents streams.new.output) }
+{
+    send(streams, out);
+}
+
+// The same for every text above 65,536 bytes.
+fn print_for_long<W: Write>(streams: &mut Streams<W>, out: &[u8])
+    requires { (s : List ℕ) → 65536 < length s → Prints s out.now }
+    ensures { streams.new.has_complained ≡ false → (s : List ℕ) → 65536 < length s → Answered s (W.contents streams.old.output) (W.contents streams.new.output) }
+{
+    send(streams, out);
+}
+
 // Prints the answer where the buffer is long enough for it, and says whether it was. For every one 440,000 bytes are enough: 1,024 rows of at most
 // 429 bytes and the header's 29.
 fn print_from<W: Write>(streams: &mut Streams<W>, out: &mut [u8], text: &[u8]) -> bool
@@ -47,7 +63,7 @@ fn print_from<W: Write>(streams: &mut Streams<W>, out: &mut [u8], text: &[u8]) -
     let Ok(count) = answer_text(out, text) else {
         return false;
     };
-    send(streams, &out[..count]);
+    print(streams, text, &out[..count]);
     true
 }
 
@@ -86,7 +102,7 @@ fn print_too_long<W: Write>(streams: &mut Streams<W>)
     let Ok(end) = refusals::write_refusal(&mut out, Refusal::TooLong) else {
         unreachable!()
     };
-    send(streams, &out[..end]);
+    print_for_long(streams, &out[..end]);
 }
 
 fn complain_unread<W: Write>(streams: &mut Streams<W>)

@@ -37,5 +37,6 @@ pub record IsWriter (w : Writer) : Type 0 where
 
 -- A writer put bytes at its place, and still has the buffer that it was lent.
 pub record Adds (bytes : List ℕ) (before after : Writer) : Type 0 where
-  pub puts : IsWriter before → Puts bytes before.out.now before.at after.at after.out.now
+  pub writer : IsWriter before
+  pub puts : Puts bytes before.out.now before.at after.at after.out.now
   pub same : after.out.ghost_name ≡ before.out.ghost_name

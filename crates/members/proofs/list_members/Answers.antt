@@ -1,5 +1,5 @@
-use Rattle.std.proofs.Common.{List, ℕ, [], ◌∷◌, ◌++◌, arith, rules, refl, sym, ap, ◌∙◌}
-use Rattle.std.proofs.lemmas.List.{take_more_set}
+use Rattle.std.proofs.Common.{arith, rules, sym, ◌∙◌}
+use Rattle.writer.specs.Writer.Places.{puts_none, puts_then, puts_as, puts_long, put_in}
 use Rattle.members.specs.Members.{members_from}
 use Rattle.members.specs.Members.Laws.{members_with, members_same, members_all}
 use Rattle.members.proofs.list_members.Goals as goal
@@ -7,15 +7,17 @@ use Rattle.members.proofs.list_members.Goals.{then-has, else-has}
 
 pub loop-p-init : goal.loop-p-init
 unfolding members_from
-loop-p-init c = (refl, omega arith)
+loop-p-init c = (puts_none (omega arith), omega arith)
 
 pub loop-p-preserved : goal.loop-p-preserved
 loop-p-preserved c =
     let v = c.loop-p in
+    let long = puts_long v.invariant.0 ∙ c.requires in
     elim c.if-has.branch [
-      | then-has w ↦ (rw (w.list-is, w.count-is) (take_more_set v.list v.count v.p (omega arith) ∙ ap (λ (l : List ℕ). l ++ (v.p ∷ [])) v.invariant.0 ∙ members_with _ _ (sym c.has.ensures ∙ w.if-has.true)), omega arith)
-      | else-has w ↦ (rw (w.list-is, w.count-is) (v.invariant.0 ∙ members_same _ _ (sym c.has.ensures ∙ w.if-has.false)), omega arith)
+      | then-has w ↦
+        (rw (w.list-is, w.count-is) (puts_as (members_with _ _ (sym c.has.ensures ∙ w.if-has.true)) (puts_then (omega (arith, c.requires)) v.invariant.0 (put_in (omega (arith, long, v.invariant.1)) (omega (arith, long))))), omega arith)
+      | else-has w ↦ (rw (w.list-is, w.count-is) (puts_as (members_same _ _ (sym c.has.ensures ∙ w.if-has.false)) v.invariant.0), omega arith)
     ]
 
-pub returns-clause-listed : goal.returns-clause-listed
-returns-clause-listed c = c.loop-p.invariant.0 ∙ members_all _ _ (search rules) (omega (arith, c.loop-p-test.false, c.loop-p.auto.p-end))
+pub returns : goal.returns
+returns c = puts_as (members_all _ _ (search rules) (omega (arith, c.loop-p-test.false, c.loop-p.auto.p-end))) c.loop-p.invariant.0

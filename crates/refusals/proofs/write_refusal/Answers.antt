@@ -7,4 +7,4 @@ pub returns-then-out-needed : goal.returns-then-out-needed
 returns-then-out-needed c = writes_none c.count_refusal-needed.ensures c.if-out-needed.true
 
 pub returns : goal.returns
-returns c = writes_added c.put_refusal.ensures refl (search rules) (omega arith) (omega arith)
+returns c = writes_added c.put_refusal.ensures refl (search rules) (omega arith)

@@ -29,10 +29,10 @@ pub refusal_is : {number place : ℕ} (r : Refusal) → number ≡ (numbered r).
 refusal_is {number} {place} r a b = ap (λ n. refusal_row n place) a ∙ ap (refusal_row (numbered r).number) b
 
 -- a writer that began at the start of a buffer, with room for what it added
-pub writes_added : {bytes after : List ℕ} {u v : Writer} → Adds bytes u v → u.at ≡ 0 → after ≡ v.out.now → length bytes ≤ length u.out.now → length u.out.now ≤ last_place → Writes bytes u.out.now (Ok v.at) after
-writes_added {bytes} {after} {u} {v} a z e h k =
-    let n = adds_count a z k (omega (arith, h, k)) in
-    let p : Puts bytes u.out.now 0 v.at v.out.now = rw z at (a.puts (record { place = omega (arith, z); buffer = k })) in
+pub writes_added : {bytes after : List ℕ} {u v : Writer} → Adds bytes u v → u.at ≡ 0 → after ≡ v.out.now → length bytes ≤ length u.out.now → Writes bytes u.out.now (Ok v.at) after
+writes_added {bytes} {after} {u} {v} a z e h =
+    let n = adds_count a z (omega (arith, h, a.writer.buffer)) in
+    let p : Puts bytes u.out.now 0 v.at v.out.now = rw z at a.puts in
     rw e (writes_all n (omega (arith, n, h)) p)
 
 -- ---- one answer and one content

@@ -1,4 +1,4 @@
-use Rattle.std.proofs.Common.{rules, arith, refl}
+use Rattle.std.proofs.Common.{rules, refl}
 use Rattle.truth.specs.Truth.Tests.{says_true, says_false}
 use Rattle.rows.specs.Result.{shape, result}
 use Rattle.refusals.specs.Writes.{too_short}
@@ -13,4 +13,4 @@ returns-then-not-has_room c = result (says_true c.is_long.ensures c.if-not-is_lo
 
 pub returns : goal.returns
 returns c =
-    result (says_true c.is_long.ensures c.if-not-is_long.false) (writes_added c.put_result.ensures refl (search rules) (says_true c.has_room.ensures c.if-not-has_room.false) (omega arith))
+    result (says_true c.is_long.ensures c.if-not-is_long.false) (writes_added c.put_result.ensures refl (search rules) (says_true c.has_room.ensures c.if-not-has_room.false))

@@ -10,7 +10,7 @@ use Rattle.truth.specs.Truth.Bools.{by_split}
 use Rattle.sets.specs.Sets.{has}
 use Rattle.graph.specs.Graph.{verdict_of}
 use Rattle.writer.specs.declared.Writer.{Writer}
-use Rattle.writer.specs.Writer.{decimal, last_place, Puts, Adds}
+use Rattle.writer.specs.Writer.{decimal, last_place, Puts, IsWriter, Adds}
 use Rattle.writer.specs.Writer.Places.{puts_none, puts_then, puts_as, adds_none, adds_then, adds_as}
 use Rattle.writer.specs.Writer.Numbers.{decimal_short}
 use Rattle.members.specs.Members.{set_bytes}
@@ -61,7 +61,7 @@ module _ (kinds checks denied granted : List ℕ) where
       ∙ ap (λ l. row_at i ++ l) (ap (λ j. rows_from kinds checks denied granted (i + 1) count ++ row_at j) e ∙ rows_more (i + 1) count)
 
   -- rows of the nodes below i, and one more
-  pub rows_none : {w : Writer} → Adds (rows_from kinds checks denied granted 0 0) w w
+  pub rows_none : {w : Writer} → IsWriter w → Adds (rows_from kinds checks denied granted 0 0) w w
   unfolding rows_from
   rows_none = adds_none
 

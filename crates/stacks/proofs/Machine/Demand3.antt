@@ -97,6 +97,16 @@ sides_of true true = rw verdict_code.3
 verdict_means : (d a : Bool) {n : ℕ} → verdict_of d a ≡ n → (d ≡ (sides n).0) × (a ≡ (sides n).1)
 verdict_means d a v = let e = sym (sides_of d a) ∙ ap sides v in (ap (λ (x : Bool × Bool). x.0) e, ap (λ (x : Bool × Bool). x.1) e)
 
+module _ (d a : Bool) where
+  passes_means : verdict_of d a ≡ 1 → a ≡ true
+  passes_means v = (verdict_means d a v).1
+
+  fails_means : verdict_of d a ≡ 2 → d ≡ true
+  fails_means v = (verdict_means d a v).0
+
+  reached_means : verdict_of d a ≡ 3 → (d ≡ true) × (a ≡ true)
+  reached_means v = verdict_means d a v
+
 -- ---- Demand 3, for an accepted graph and the content of its own slices
 
 module _ (g : Graph) (acc : Acceptable g) (x : Slices) (c : Content g x) where
@@ -132,12 +142,12 @@ module _ (g : Graph) (acc : Acceptable g) (x : Slices) (c : Content g x) where
 
     pub always_passes : verdict_at n ≡ 1 → (full (rights_of g) (check g n) (n ∷ r)).passes ≡ true
     unfolding verdict_at
-    always_passes v = sets_tell.0 (verdict_means _ _ v).1
+    always_passes v = sets_tell.0 (passes_means _ _ v)
 
     pub always_fails : verdict_at n ≡ 2 → (full (rights_of g) (check g n) (n ∷ r)).passes ≡ false
     unfolding verdict_at
-    always_fails v = sets_tell.1 (verdict_means _ _ v).0
+    always_fails v = sets_tell.1 (fails_means _ _ v)
 
     pub never_reached : verdict_at n ≡ 3 → ⊥
     unfolding verdict_at
-    never_reached v = let b = verdict_means _ _ v in clash (sets_tell.0 b.1) (sets_tell.1 b.0)
+    never_reached v = let b = reached_means _ _ v in clash (sets_tell.0 b.1) (sets_tell.1 b.0)

@@ -5,5 +5,5 @@ use Rattle.verdicts.proofs.print_too_long.Goals as goal
 pub unreachable-requires : goal.unreachable-requires
 unreachable-requires g c = long_fit (long_answers (rw c.in_default.is at c.write_refusal.ensures)) (search rules)
 
-pub returns : goal.returns
-returns g c = λ quiet s long. (_, long_part (long_answers (rw c.in-Ok.is at c.write_refusal.ensures)) s long, c.send.ensures quiet)
+pub print_for_long-requires : goal.print_for_long-requires
+print_for_long-requires g c = long_part (long_answers (rw c.in-Ok.is at c.write_refusal.ensures))

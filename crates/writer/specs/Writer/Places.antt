@@ -50,14 +50,14 @@ puts_one p q = (p.answer ∙ sym q.answer, p.content ∙ sym q.content)
 
 -- ---- what a writer adds
 
-pub adds_none : {w : Writer} → Adds [] w w
-adds_none = record { puts = λ s. puts_none s.place; same = refl }
+pub adds_none : {w : Writer} → IsWriter w → Adds [] w w
+adds_none s = record { writer = s; puts = puts_none s.place; same = refl }
 
 pub adds_then : {xs ys : List ℕ} {u v w : Writer} → Adds xs u v → Adds ys v w → Adds (xs ++ ys) u w
-adds_then {xs} {ys} {u} {v} a b = record { puts = λ s. puts_then s.buffer (a.puts s) (b.puts (still (a.puts s) s)); same = b.same ∙ a.same }
-  where
-    still : Puts xs u.out.now u.at v.at v.out.now → IsWriter u → IsWriter v
-    still p s = record { place = omega (arith, p.answer); buffer = omega (arith, s.buffer, puts_long p) }
+adds_then a b = record { writer = a.writer; puts = puts_then a.writer.buffer a.puts b.puts; same = b.same ∙ a.same }
+
+pub adds_one : {bytes : List ℕ} {u v w : Writer} → Adds bytes u v → Adds bytes u w → (v.at ≡ w.at) × (v.out.now ≡ w.out.now)
+adds_one a b = puts_one a.puts b.puts
 
 pub adds_as : {xs ys : List ℕ} {u v : Writer} → xs ≡ ys → Adds xs u v → Adds ys u v
 adds_as {u = u} {v = v} e a = subst (λ x. Adds x u v) e a
@@ -73,10 +73,8 @@ pub adds_all : {u v : Writer} (bytes : List ℕ) (i : ℕ) → length bytes ≤ 
 adds_all bytes i h a = adds_as (take_all i bytes h) a
 
 -- a writer that began at the start of its buffer has counted what it added
-pub adds_count : {bytes : List ℕ} {u v : Writer} → Adds bytes u v → u.at ≡ 0 → length u.out.now ≤ last_place → length bytes ≤ last_place → v.at ≡ length bytes
-adds_count a z k h =
-    let p = a.puts (record { place = omega (arith, z); buffer = k }) in
-    omega (arith, p.answer, z, h)
+pub adds_count : {bytes : List ℕ} {u v : Writer} → Adds bytes u v → u.at ≡ 0 → length bytes ≤ last_place → v.at ≡ length bytes
+adds_count a z h = omega (arith, a.puts.answer, z, h)
 
 -- ---- places of 64 bits, and one byte at a place
 

@@ -17,8 +17,7 @@ zeros_one {a = a} {b = b} la lb za zb = ext_get_or 0 a b (la ∙ sym lb) (λ i _
 pub clear_one : {x y : Slots} → Clear x → Clear y → (node_slots x.nodes ≡ node_slots y.nodes) × (edge_slots x.edges ≡ edge_slots y.edges)
 clear_one c d =
     let (n, e) = c.room in
-    let (m, f) = d.room in
-    (
+    let (m, f) = d.room in (
       rw (
         zeros_one n.kinds m.kinds c.nodes.kinds d.nodes.kinds,
         zeros_one n.checks m.checks c.nodes.checks d.nodes.checks,

@@ -15,7 +15,7 @@ loop-p-preserved c =
     let long = puts_long v.invariant.0 ∙ c.requires in
     elim c.if-has.branch [
       | then-has w ↦
-        (rw (w.list-is, w.count-is) (puts_as (members_with _ _ (sym c.has.ensures ∙ w.if-has.true)) (puts_then (omega (arith, c.requires)) v.invariant.0 (put_in (omega (arith, long, v.invariant.1)) (omega (arith, long))))), omega arith)
+          (rw (w.list-is, w.count-is) (puts_as (members_with _ _ (sym c.has.ensures ∙ w.if-has.true)) (puts_then (omega (arith, c.requires)) v.invariant.0 (put_in (omega (arith, long, v.invariant.1)) (omega (arith, long))))), omega arith)
       | else-has w ↦ (rw (w.list-is, w.count-is) (puts_as (members_same _ _ (sym c.has.ensures ∙ w.if-has.false)) v.invariant.0), omega arith)
     ]
 

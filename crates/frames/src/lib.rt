@@ -1,18 +1,39 @@
 // What a stack's slice may be.
 #![tactic(auto)]
 
-ghost use Rattle.truth.specs.Truth.{Says};
-ghost use Rattle.frames.specs.Frames.{StackFits};
+ghost use Rattle.std.specs.Prelude.{◌≡◌, ◌≤◌, length};
+ghost use Rattle.truth.specs.Truth.{Says, First};
+ghost use Rattle.frames.specs.Frames.{Frame, StackFits};
 
 // How many places a stack's slice may have.
 const MOST_FRAMES: usize = 1024;
+
+// The first frame that is no node, or height. A loop, since `all` with a closure takes up to twice the instructions.
+fn first_bad_frame(n: usize, stack: &[u16], height: usize) -> usize
+    requires { height ≤ length stack.now }
+    ensures { First (Frame n stack.now) height result }
+{
+    for i in 0..height {
+        if n <= usize::from(stack[i]) {
+            return i;
+        }
+    }
+    height
+}
 
 // Whether a stack may be asked about: no more places than a slice may have, a height within it, and a node at each place below the height. The two are
 // apart, and no slice of the frames alone, since a height above the slice is refused (6).
 pub fn stack_fits(n: usize, stack: &[u16], height: usize) -> bool
     ensures { Says (StackFits n stack.now height) result }
 {
-    stack.len() <= MOST_FRAMES
-        && height <= stack.len()
-        && stack[..height].iter().all(|frame| usize::from(*frame) < n)
+    if MOST_FRAMES < stack.len() {
+        return false;
+    }
+    if stack.len() < height {
+        return false;
+    }
+    if first_bad_frame(n, stack, height) < height {
+        return false;
+    }
+    true
 }

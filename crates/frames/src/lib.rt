@@ -26,14 +26,7 @@ fn first_bad_frame(n: usize, stack: &[u16], height: usize) -> usize
 pub fn stack_fits(n: usize, stack: &[u16], height: usize) -> bool
     ensures { Says (StackFits n stack.now height) result }
 {
-    if MOST_FRAMES < stack.len() {
-        return false;
-    }
-    if stack.len() < height {
-        return false;
-    }
-    if first_bad_frame(n, stack, height) < height {
-        return false;
-    }
-    true
+    stack.len() <= MOST_FRAMES
+        && height <= stack.len()
+        && height <= first_bad_frame(n, stack, height)
 }

@@ -1,16 +1,13 @@
-use Rattle.truth.specs.Truth.Tests.{first_all, first_some}
-use Rattle.truth.specs.Truth.{holds, fails}
-use native.Mathlib.Omega.{arith}
+use borrow.Author.Rules.{rules}
+use borrow.Author.Tests.{tests}
+use Rattle.truth.specs.Truth.Tests.{says_same, says_no, first_all, all_first, le?}
 use Rattle.frames.proofs.stack_fits.Goals as goal
 
-pub returns-then-stack-gt-MOST_FRAMES : goal.returns-then-stack-gt-MOST_FRAMES
-returns-then-stack-gt-MOST_FRAMES c = fails (λ f. omega (arith, f.slice))
+pub returns-then-height-stack : goal.returns-then-height-stack
+returns-then-height-stack c =
+    let (slice, held) = c.if-height-stack.true in
+    let first = c.first_bad_frame.ensures in
+    says_same (le? _ _) (λ h. record { slice = slice; held = held; nodes = first_all first h }) (λ s. all_first first s.nodes)
 
-pub returns-then-stack-height : goal.returns-then-stack-height
-returns-then-stack-height c = fails (λ f. omega (arith, f.held))
-
-pub returns-then-first_bad_frame-height : goal.returns-then-first_bad_frame-height
-returns-then-first_bad_frame-height c = fails (λ f. first_some c.first_bad_frame.ensures c.if-first_bad_frame-height.true f.nodes)
-
-pub returns : goal.returns
-returns c = holds (record { slice = omega arith; held = omega arith; nodes = first_all c.first_bad_frame.ensures c.if-first_bad_frame-height.false })
+pub returns-else-height-stack : goal.returns-else-height-stack
+returns-else-height-stack c = says_no (search rules) (λ f. search (rules, tests))
